@@ -1,0 +1,3 @@
+pub mod Fraction
+pub mod Value
+pub mod Rounding
