@@ -39,3 +39,25 @@ pub fn ceil_div(n: i64, d: i64) -> Option<i64>
         if n < 0 { Some((n + 1) / d + 1) } else { Some(n / d) }
     }
 }
+
+#[cfg(test)]
+mod tests {
+    use super::*;
+    use std::test::*;
+
+    #[test]
+    fn rounds_by_either_sign() -> Result<(), Fail> {
+        check_eq(floor_div(-7, 2), Some(-4))?;
+        check_eq(floor_div(7, -2), Some(-4))?;
+        check_eq(floor_div(-7, -2), Some(3))?;
+        check_eq(ceil_div(-7, 2), Some(-3))?;
+        check_eq(ceil_div(-7, -2), Some(4))?;
+        check_eq(floor_div(5, i64::MIN), Some(-1))
+    }
+
+    #[test]
+    fn refuses_what_has_no_quotient() -> Result<(), Fail> {
+        check_eq(floor_div(1, 0), None)?;
+        check_eq(ceil_div(i64::MIN, -1), None)
+    }
+}

@@ -4,3 +4,4 @@ pub mod Products
 pub mod Quotients
 pub mod Laws
 pub mod Clear
+pub mod Worked
