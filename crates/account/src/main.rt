@@ -4,7 +4,6 @@ ghost use mathlib.Core.Path.{_≡_};
 ghost use Rattle.interval.specs.Rules.{sub};
 ghost use Rattle.interval.specs.declared.enclosures.Enclosure.the-variants.{Bounds};
 ghost use Rattle.account.specs.Cells.{halved, Narrower};
-
 use interval::enclosures::Enclosure;
 use interval::enclosures::Sign;
 use std::alloc::AllocError;
@@ -28,8 +27,7 @@ fn margin(cell: Cell, reading: Enclosure) -> Enclosure
     Enclosure::Bounds {
         lo: cell.lo,
         hi: cell.hi,
-    }
-    .sub(reading)
+    }.sub(reading)
 }
 
 // The two halves of a cell that is wider than the asked width; the middle is rounded down.
@@ -56,7 +54,11 @@ fn verdict(sign: Sign, wide: bool) -> &'static str {
     match sign {
         Sign::Plus => "clear, one count or more above zero",
         Sign::Minus => "clear, one count or more below zero",
-        Sign::Unknown => if wide { "may touch zero, halved" } else { "may touch zero, kept" },
+        Sign::Unknown => if wide {
+            "may touch zero, halved"
+        } else {
+            "may touch zero, kept"
+        },
     }
 }
 
@@ -79,7 +81,10 @@ fn account(rt: &LibcRuntime, cell: Cell, reading: Enclosure) -> io::Result<()> {
 }
 
 fn main(rt: LibcRuntime) -> io::Result<()> {
-    println!(rt, "margin x - r with r in [30, 33], openings x from 0 to 100, in counts")?;
+    println!(
+        rt,
+        "margin x - r with r in [30, 33], openings x from 0 to 100, in counts"
+    )?;
     let reading = Enclosure::Bounds { lo: 30, hi: 33 };
     account(&rt, Cell { lo: 0, hi: 100 }, reading)
 }

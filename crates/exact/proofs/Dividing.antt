@@ -145,14 +145,16 @@ pub record Told (n d : ℤ) (answer : ℤ → ℤ → Option ℤ) (Is : ℤ → 
 
 module _ (n d q : ℤ) (z : d ≡ pos 0 → ⊥) (f : SFits w64 n) (o : Overflows n d → ⊥) where
   pub told-floor : q ≡ floor n d → Told n d floorDiv IsFloor (Some q)
-  told-floor e = record
-    { value = ap Some e ∙ answered d (floor n d) z (floor-fits n d f o)
-    ; meaning = subst (IsFloor n d) (sym e) (floor-is n d) }
+  told-floor e = record {
+    value = ap Some e ∙ answered d (floor n d) z (floor-fits n d f o);
+    meaning = subst (IsFloor n d) (sym e) (floor-is n d);
+  }
 
   pub told-ceiling : q ≡ ceiling n d → Told n d ceilDiv IsCeiling (Some q)
-  told-ceiling e = record
-    { value = ap Some e ∙ answered d (ceiling n d) z (ceiling-fits n d f o)
-    ; meaning = subst (IsCeiling n d) (sym e) (ceiling-is n d) }
+  told-ceiling e = record {
+    value = ap Some e ∙ answered d (ceiling n d) z (ceiling-fits n d f o);
+    meaning = subst (IsCeiling n d) (sym e) (ceiling-is n d);
+  }
 
 -- each arm of the code: the dividend one nearer to zero by t, and the quotient moved by s; or the plain quotient
 module _ (n d : ℤ) (f : SFits w64 n) (g : SFits w64 d) (z : d ≡ pos 0 → ⊥) (o : Overflows n d → ⊥) where

@@ -29,12 +29,16 @@ a ≑ b = a .0 ⊗ b .1 ≐ b .0 ⊗ a .1
 
 abbrev v0 : Fx
 v0 = (var 0, var 1)
+
 abbrev v1 : Fx
 v1 = (var 2, var 3)
+
 abbrev v2 : Fx
 v2 = (var 4, var 5)
+
 abbrev v3 : Fx
 v3 = (var 6, var 7)
+
 abbrev v4 : Fx
 v4 = (var 8, var 9)
 

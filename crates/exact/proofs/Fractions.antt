@@ -85,14 +85,19 @@ less-≃ u u′ v v′ p q = by-ltZ X Y
   where
     X : ℤ
     X = u .num *ℤ pos (v .den)
+
     Y : ℤ
     Y = v .num *ℤ pos (u .den)
+
     X′ : ℤ
     X′ = u′ .num *ℤ pos (v′ .den)
+
     Y′ : ℤ
     Y′ = v′ .num *ℤ pos (u′ .den)
+
     omega-true : (a b : ℤ) → a <ℤ b → ltZ a b ≡ true
     omega-true a b h = grind (arith, ints)
+
     omega-false : (a b : ℤ) → b ≤ℤ a → ltZ a b ≡ false
     omega-false a b h = grind (arith, ints)
 

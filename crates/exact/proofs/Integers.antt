@@ -37,6 +37,7 @@ neg-*ℤ a b = same-in _ _ (simp (up-mul, down-mul, up-neg, down-neg) (omega ari
   where
     up-neg : (b : ℤ) → up (negℤ b) ≡ down b
     up-neg b = neg-is b .0
+
     down-neg : (b : ℤ) → down (negℤ b) ≡ up b
     down-neg b = neg-is b .1
 

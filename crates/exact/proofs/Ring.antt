@@ -16,10 +16,10 @@ pub data Ex : Type 0 where
   lit : ℤ → Ex
   _⊕_ _⊗_ : Ex → Ex → Ex
   ⊖_ : Ex → Ex
+
 infixl 6 _⊕_ _⊝_
 infixl 7 _⊗_
 infix 8 ⊖_
-
 abbrev pub _⊝_ : Ex → Ex → Ex
 a ⊝ b = a ⊕ ⊖ b
 

@@ -38,9 +38,10 @@ ceiling-is n d =
     let q = floor (negℤ n) d in
     let e = ring2 q d (λ F D. ⊖ F ⊗ D ≐ ⊖ (F ⊗ D)) refl in
     let g = ring2 q d (λ F D. (⊖ F ⊕ lit (negsuc 0)) ⊗ D ≐ ⊖ ((F ⊕ lit (pos 1)) ⊗ D)) refl in
-    record
-      { above = λ h. let f = floor-above (negℤ n) d h in (omega (arith, linear), omega (arith, linear))
-      ; below = λ h. let f = floor-below (negℤ n) d h in (omega (arith, linear), omega (arith, linear)) }
+    record {
+      above = λ h. let f = floor-above (negℤ n) d h in (omega (arith, linear), omega (arith, linear));
+      below = λ h. let f = floor-below (negℤ n) d h in (omega (arith, linear), omega (arith, linear));
+    }
 
 -- ---- no larger than the dividend
 floorBy-size : (n : ℤ) (k : ℕ) → natAbs (floorBy n k) ≤ natAbs n

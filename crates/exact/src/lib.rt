@@ -15,9 +15,17 @@ pub fn floor_div(n: i64, d: i64) -> Option<i64>
     }
     // `/` rounds toward zero: down, unless the signs differ. There n, one nearer to zero, gives one more than the floor.
     if d > 0 {
-        if n < 0 { Some((n + 1) / d - 1) } else { Some(n / d) }
+        if n < 0 {
+            Some((n + 1) / d - 1)
+        } else {
+            Some(n / d)
+        }
     } else {
-        if n > 0 { Some((n - 1) / d - 1) } else { Some(n / d) }
+        if n > 0 {
+            Some((n - 1) / d - 1)
+        } else {
+            Some(n / d)
+        }
     }
 }
 
@@ -34,9 +42,17 @@ pub fn ceil_div(n: i64, d: i64) -> Option<i64>
     }
     // `/` rounds toward zero: up, unless the signs agree. There n, one nearer to zero, gives one less than the ceiling.
     if d > 0 {
-        if n > 0 { Some((n - 1) / d + 1) } else { Some(n / d) }
+        if n > 0 {
+            Some((n - 1) / d + 1)
+        } else {
+            Some(n / d)
+        }
     } else {
-        if n < 0 { Some((n + 1) / d + 1) } else { Some(n / d) }
+        if n < 0 {
+            Some((n + 1) / d + 1)
+        } else {
+            Some(n / d)
+        }
     }
 }
 

@@ -54,10 +54,11 @@ pub record Told (e : Enclosure) (r : Bool) : Type 0 where
   pub signed : r ≡ isKnown (signOf e)
 
 pub told : (e : Enclosure) (r : Bool) → r ≡ clear e → Told e r
-told e r p = record
-  { rule = p
-  ; law = λ t x h. known-away (signOf e) x (sym (clear-known e) ∙ sym p ∙ t) (sign-shows e x h)
-  ; signed = p ∙ clear-known e }
+told e r p = record {
+  rule = p;
+  law = λ t x h. known-away (signOf e) x (sym (clear-known e) ∙ sym p ∙ t) (sign-shows e x h);
+  signed = p ∙ clear-known e;
+}
 
 pub record Signed (e : Enclosure) (s : Sign) : Type 0 where
   pub rule : s ≡ signOf e

@@ -106,8 +106,9 @@ div-follows p q r = follows (div p q) (Law2 quotient p q) r (holds2 quotientsApa
     holds : (a b d e : ℤ) (u v : Fraction) → Between a b u → Between d e v → Holds (quotientsApart a b d e) (divided u v)
     holds a b d e u v h k = cond-if (λ E. Holds E (divided u v)) (spansZero d e || spansZero e d) NoBounds (quotients a b d e) (λ _. tt)
         (λ s. apart d e (neither (spansZero d e) (spansZero e d) s)
-            (λ l. kept-holds (lowQuotient a b d e) (highQuotient a b d e) (divided u v) (quotient-pos a b d e u v h k l))
-            (λ l. kept-holds (lowQuotient a b d e) (highQuotient a b d e) (divided u v) (quotient-neg a b d e u v h k l)))
+        (λ l. kept-holds (lowQuotient a b d e) (highQuotient a b d e) (divided u v) (quotient-pos a b d e u v h k l))
+        (λ l. kept-holds (lowQuotient a b d e) (highQuotient a b d e) (divided u v) (quotient-neg a b d e u v h k l)))
+
     ranged : (a b d e : ℤ) → InRange (quotientsApart a b d e)
     ranged a b d e = cond-if InRange (spansZero d e || spansZero e d) NoBounds (quotients a b d e) (λ _. tt) (λ _. kept-range (lowQuotient a b d e) (highQuotient a b d e))
 
@@ -120,16 +121,19 @@ absolute-between a b u p = (low, high)
   where
     below : Low (pos 0) (absolute u)
     below = absolute-by (Low (pos 0)) u (λ k. low-zero u k) (λ k. low-zero (negated u) (omega (arith, linear)))
+
     above : spansZero a b ≡ false → Low (minZ (size a) (size b)) (absolute u)
     above s = apart a b s
         (λ l. absolute-by (Low (minZ (size a) (size b))) u
-            (λ _. low-less a (minZ (size a) (size b)) u (omega (arith, ints, clamps)) (p .0))
-            (λ k. clashℤ k (low-nonneg u a (omega (arith, linear)) (p .0))))
+        (λ _. low-less a (minZ (size a) (size b)) u (omega (arith, ints, clamps)) (p .0))
+        (λ k. clashℤ k (low-nonneg u a (omega (arith, linear)) (p .0))))
         (λ l. absolute-by (Low (minZ (size a) (size b))) u
-            (λ k. clashℤ (high-neg u b l (p .1)) k)
-            (λ _. low-less (negℤ b) (minZ (size a) (size b)) (negated u) (omega (arith, ints, clamps)) (between-negated a b u p .0)))
+        (λ k. clashℤ (high-neg u b l (p .1)) k)
+        (λ _. low-less (negℤ b) (minZ (size a) (size b)) (negated u) (omega (arith, ints, clamps)) (between-negated a b u p .0)))
+
     low : Low (nearest a b) (absolute u)
     low = cond-if (λ z. Low z (absolute u)) (spansZero a b) (pos 0) (minZ (size a) (size b)) (λ _. below) above
+
     high : High (farthest a b) (absolute u)
     high = absolute-by (High (farthest a b)) u
         (λ _. high-more b (farthest a b) u (omega (arith, ints, clamps)) (p .1))
@@ -204,15 +208,15 @@ chi-holds NoBounds q r x y z h f g = tt
 chi-holds (Bounds a b) q r none y z h f g = absurd h
 chi-holds (Bounds a b) q r (some u) y z h f g = cond-if (λ v. Holds (chi (Bounds a b) q r) v) (negative u) y z
     (λ n. cond-by (λ B. Holds (taken B q r) y) b (pos 0) First (cond (ltZ (pos 0) a) Second Both)
-        (λ _. held-holds q y (f u refl n))
-        (λ _. cond-by (λ B. Holds (taken B q r) y) (pos 0) a Second Both
-            (λ l. let m = low-pos u a l (h .0) in absurd (omega (arith, ints)))
-            (λ _. hull-holds q r y (inl (f u refl n)))))
+    (λ _. held-holds q y (f u refl n))
+    (λ _. cond-by (λ B. Holds (taken B q r) y) (pos 0) a Second Both
+    (λ l. let m = low-pos u a l (h .0) in absurd (omega (arith, ints)))
+    (λ _. hull-holds q r y (inl (f u refl n)))))
     (λ n. cond-by (λ B. Holds (taken B q r) z) b (pos 0) First (cond (ltZ (pos 0) a) Second Both)
-        (λ l. let m = high-neg u b l (h .1) in absurd (omega (arith, ints)))
-        (λ _. cond-by (λ B. Holds (taken B q r) z) (pos 0) a Second Both
-            (λ _. held-holds r z (g u refl n))
-            (λ _. hull-holds q r z (inr (g u refl n)))))
+    (λ l. let m = high-neg u b l (h .1) in absurd (omega (arith, ints)))
+    (λ _. cond-by (λ B. Holds (taken B q r) z) (pos 0) a Second Both
+    (λ _. held-holds r z (g u refl n))
+    (λ _. hull-holds q r z (inr (g u refl n)))))
 
 pub chi-follows : (s q r e : Enclosure) → e ≡ chi s q r → Follows (chi s q r) (BranchLaw s q r) e
 unfolding chi

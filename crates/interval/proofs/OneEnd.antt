@@ -101,11 +101,13 @@ pub ends-ordered : (lo hi : ℤ) (u : Fraction) → Between lo hi u → lo ≤�
 ends-ordered lo hi u h = Rattle.exact.proofs.Integers.≤ℤ-cancel lo hi (pos (u .den)) (den-pos u) (omega (arith, linear))
 
 pub between-≃ : (lo hi : ℤ) (u v : Fraction) → u ≃ v → Between lo hi u → Between lo hi v
-between-≃ lo hi u v e h =
-    (low-moves lo (u .num) (pos (u .den)) (v .num) (pos (v .den)) (den-pos u) (den-pos v) (h .0) (omega (arith, linear))
-    , high-moves hi (u .num) (pos (u .den)) (v .num) (pos (v .den)) (den-pos u) (den-pos v) (h .1) (omega (arith, linear)))
+between-≃ lo hi u v e h = (
+  low-moves lo (u .num) (pos (u .den)) (v .num) (pos (v .den)) (den-pos u) (den-pos v) (h .0) (omega (arith, linear)),
+  high-moves hi (u .num) (pos (u .den)) (v .num) (pos (v .den)) (den-pos u) (den-pos v) (h .1) (omega (arith, linear)),
+)
 
 pub between-negated : (lo hi : ℤ) (u : Fraction) → Between lo hi u → Between (negℤ hi) (negℤ lo) (negated u)
-between-negated lo hi u h =
-    (omega (arith, linear, neg-*ℤ hi (pos (u .den)), *ℤ-neg (pos 1000) (u .num), h .1)
-    , omega (arith, linear, neg-*ℤ lo (pos (u .den)), *ℤ-neg (pos 1000) (u .num), h .0))
+between-negated lo hi u h = (
+  omega (arith, linear, neg-*ℤ hi (pos (u .den)), *ℤ-neg (pos 1000) (u .num), h .1),
+  omega (arith, linear, neg-*ℤ lo (pos (u .den)), *ℤ-neg (pos 1000) (u .num), h .0),
+)

@@ -32,26 +32,27 @@ sum-high a d x y s t hs ht p q =
     omega (arith, linear)
 
 pub between-plus : (a b d e : ℤ) (u v : Fraction) → Between a b u → Between d e v → Between (a +ℤ d) (b +ℤ e) (plus u v)
-between-plus a b d e u v p q =
-    (sum-low a d (u .num) (v .num) (pos (u .den)) (pos (v .den)) (den-pos u) (den-pos v) (p .0) (q .0)
-    , sum-high b e (u .num) (v .num) (pos (u .den)) (pos (v .den)) (den-pos u) (den-pos v) (p .1) (q .1))
+between-plus a b d e u v p q = (
+  sum-low a d (u .num) (v .num) (pos (u .den)) (pos (v .den)) (den-pos u) (den-pos v) (p .0) (q .0),
+  sum-high b e (u .num) (v .num) (pos (u .den)) (pos (v .den)) (den-pos u) (den-pos v) (p .1) (q .1),
+)
 
 -- ---- the product
 -- what is linear in y is least at an end: lo·t ≤ y ≤ hi·t
 pub corner : (k lo hi y t m : ℤ) → pos 0 <ℤ t → (lo *ℤ t) ≤ℤ y → y ≤ℤ (hi *ℤ t) → m ≤ℤ (k *ℤ lo) → m ≤ℤ (k *ℤ hi) → (m *ℤ t) ≤ℤ (k *ℤ y)
 corner k lo hi y t m ht p q f g = by-order (pos 0) k
     (λ h.
-        let i = ≤ℤ-mul (lo *ℤ t) y k p h in
-        let j = ≤ℤ-mul m (k *ℤ lo) t f (omega (arith, linear)) in
-        let e = ring3 k lo t (λ K L T. (K ⊗ L) ⊗ T ≐ (L ⊗ T) ⊗ K) refl in
-        let c = ring2 k y (λ K Y. K ⊗ Y ≐ Y ⊗ K) refl in
-        omega (arith, linear))
+    let i = ≤ℤ-mul (lo *ℤ t) y k p h in
+    let j = ≤ℤ-mul m (k *ℤ lo) t f (omega (arith, linear)) in
+    let e = ring3 k lo t (λ K L T. (K ⊗ L) ⊗ T ≐ (L ⊗ T) ⊗ K) refl in
+    let c = ring2 k y (λ K Y. K ⊗ Y ≐ Y ⊗ K) refl in
+    omega (arith, linear))
     (λ h.
-        let i = ≤ℤ-mul-neg y (hi *ℤ t) k q (omega (arith, linear)) in
-        let j = ≤ℤ-mul m (k *ℤ hi) t g (omega (arith, linear)) in
-        let e = ring3 k hi t (λ K L T. (K ⊗ L) ⊗ T ≐ (L ⊗ T) ⊗ K) refl in
-        let c = ring2 k y (λ K Y. K ⊗ Y ≐ Y ⊗ K) refl in
-        omega (arith, linear))
+    let i = ≤ℤ-mul-neg y (hi *ℤ t) k q (omega (arith, linear)) in
+    let j = ≤ℤ-mul m (k *ℤ hi) t g (omega (arith, linear)) in
+    let e = ring3 k hi t (λ K L T. (K ⊗ L) ⊗ T ≐ (L ⊗ T) ⊗ K) refl in
+    let c = ring2 k y (λ K Y. K ⊗ Y ≐ Y ⊗ K) refl in
+    omega (arith, linear))
 
 -- a·s ≤ x ≤ b·s and d·t ≤ y ≤ e·t: m·s·t ≤ x·y, for m below the four products
 product-low : (a b d e x y s t m : ℤ) → pos 0 <ℤ s → pos 0 <ℤ t → (a *ℤ s) ≤ℤ x → x ≤ℤ (b *ℤ s) → (d *ℤ t) ≤ℤ y → y ≤ℤ (e *ℤ t)
@@ -71,7 +72,7 @@ product-high : (a b d e x y s t m : ℤ) → pos 0 <ℤ s → pos 0 <ℤ t → (
 product-high a b d e x y s t m hs ht p q p′ q′ f g f′ g′ =
     let n = λ (z w : ℤ). ring2 z w (λ Z W. ⊖ Z ⊗ W ≐ ⊖ (Z ⊗ W)) refl in
     let k = product-low (negℤ b) (negℤ a) d e (negℤ x) y s t (negℤ m) hs ht (omega (arith, linear, n b s)) (omega (arith, linear, n a s)) p′ q′
-        (omega (arith, linear, n b d)) (omega (arith, linear, n b e)) (omega (arith, linear, n a d)) (omega (arith, linear, n a e)) in
+    (omega (arith, linear, n b d)) (omega (arith, linear, n b e)) (omega (arith, linear, n a d)) (omega (arith, linear, n a e)) in
     let r = ring3 m t s (λ M T S. (⊖ M ⊗ T) ⊗ S ≐ ⊖ ((M ⊗ T) ⊗ S)) refl in
     omega (arith, linear, n x y)
 
@@ -113,6 +114,7 @@ between-times a b d e u v p q =
     let lb = least-below (a *ℤ d) (a *ℤ e) (b *ℤ d) (b *ℤ e) in
     let ga = greatest-above (a *ℤ d) (a *ℤ e) (b *ℤ d) (b *ℤ e) in
     let low = product-low a b d e x y s t m (den-pos u) (den-pos v) (p .0) (p .1) (q .0) (q .1) (lb .0) (lb .1) (lb .2) (lb .3) in
-    let high = product-high a b d e x y s t M (den-pos u) (den-pos v) (p .0) (p .1) (q .0) (q .1) (ga .0) (ga .1) (ga .2) (ga .3) in
-    (scaled-low (floor m (pos 1000)) m (u .num) (v .num) s t (den-pos u) (den-pos v) (floor-is m (pos 1000) .above (record { lt = tt }) .0) low
-    , scaled-high (ceiling M (pos 1000)) M (u .num) (v .num) s t (den-pos u) (den-pos v) (ceiling-is M (pos 1000) .above (record { lt = tt }) .1) high)
+    let high = product-high a b d e x y s t M (den-pos u) (den-pos v) (p .0) (p .1) (q .0) (q .1) (ga .0) (ga .1) (ga .2) (ga .3) in (
+      scaled-low (floor m (pos 1000)) m (u .num) (v .num) s t (den-pos u) (den-pos v) (floor-is m (pos 1000) .above (record { lt = tt }) .0) low,
+      scaled-high (ceiling M (pos 1000)) M (u .num) (v .num) s t (den-pos u) (den-pos v) (ceiling-is M (pos 1000) .above (record { lt = tt }) .1) high,
+    )

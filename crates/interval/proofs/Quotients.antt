@@ -47,9 +47,10 @@ over-pos : (a b d e lo hi : ℤ) (u : Fraction) (n : ℤ) (t : ℕ) → 0 < t �
     → Holds (Bounds lo hi) (over u n t)
 over-pos a b d e lo hi u (pos zero) t ht hn p q r f g f′ g′ = absurd (hn .lt)
 over-pos a b d e lo hi u (pos (suc n)) t ht hn p q r f g f′ g′ =
-    let tp : pos 0 <ℤ pos t = omega (arith, ints) in
-    (quotient-low a d e lo (u .num) (pos (suc n)) (pos (u .den)) (pos t) (den-pos u) tp (p .0) q r f g
-    , quotient-high b d e hi (u .num) (pos (suc n)) (pos (u .den)) (pos t) (den-pos u) tp (p .1) q r f′ g′)
+    let tp : pos 0 <ℤ pos t = omega (arith, ints) in (
+      quotient-low a d e lo (u .num) (pos (suc n)) (pos (u .den)) (pos t) (den-pos u) tp (p .0) q r f g,
+      quotient-high b d e hi (u .num) (pos (suc n)) (pos (u .den)) (pos t) (den-pos u) tp (p .1) q r f′ g′,
+    )
 over-pos a b d e lo hi u (negsuc n) t ht hn p q r f g f′ g′ = absurd (hn .lt)
 
 -- by a negative one: both turned round
@@ -66,9 +67,9 @@ over-neg a b d e lo hi u (negsuc n) t ht hn p q r f g f′ g′ =
     let q′ : (negℤ e *ℤ pos t) ≤ℤ (pos 1000 *ℤ y) = omega (arith, linear, q, r, N e (pos t), R (pos 1000) (negsuc n)) in
     let r′ : (pos 1000 *ℤ y) ≤ℤ (negℤ d *ℤ pos t) = omega (arith, linear, q, r, N d (pos t), R (pos 1000) (negsuc n)) in
     let l = quotient-low (negℤ b) (negℤ e) (negℤ d) lo (negℤ (u .num)) y (pos (u .den)) (pos t) (den-pos u) tp (m .0) q′ r′
-        (omega (arith, linear, R lo e, R (pos 1000) b)) (omega (arith, linear, R lo d, R (pos 1000) b)) in
+    (omega (arith, linear, R lo e, R (pos 1000) b)) (omega (arith, linear, R lo d, R (pos 1000) b)) in
     let h = quotient-high (negℤ a) (negℤ e) (negℤ d) hi (negℤ (u .num)) y (pos (u .den)) (pos t) (den-pos u) tp (m .1) q′ r′
-        (omega (arith, linear, R hi e, R (pos 1000) a)) (omega (arith, linear, R hi d, R (pos 1000) a)) in
+    (omega (arith, linear, R hi e, R (pos 1000) a)) (omega (arith, linear, R hi d, R (pos 1000) a)) in
     let z : negℤ (u .num) *ℤ pos t ≡ negℤ (u .num *ℤ pos t) = neg-*ℤ (u .num) (pos t) in
     subst (λ (k : ℤ). ((lo *ℤ pos (u .den * suc n)) ≤ℤ (pos 1000 *ℤ k)) × ((pos 1000 *ℤ k) ≤ℤ (hi *ℤ pos (u .den * suc n)))) z (l, h)
 
@@ -94,8 +95,8 @@ module _ (a b d e : ℤ) (u v : Fraction) (p : Between a b u) (q : Between d e v
       let o = ends-ordered d e v q in
       let he : pos 0 <ℤ e = omega (arith, linear) in
       over-pos a b d e (lowQuotient a b d e) (highQuotient a b d e) u (v .num) (v .den) (v .positive) (low-pos v d hd (q .0)) p (q .0) (q .1)
-          (at-most _ _ _ d hd (lb .0) (floor-is (pos 1000 *ℤ a) d .above hd .0)) (at-most _ _ _ e he (lb .1) (floor-is (pos 1000 *ℤ a) e .above he .0))
-          (at-least _ _ _ d hd (ga .2) (ceiling-is (pos 1000 *ℤ b) d .above hd .1)) (at-least _ _ _ e he (ga .3) (ceiling-is (pos 1000 *ℤ b) e .above he .1))
+      (at-most _ _ _ d hd (lb .0) (floor-is (pos 1000 *ℤ a) d .above hd .0)) (at-most _ _ _ e he (lb .1) (floor-is (pos 1000 *ℤ a) e .above he .0))
+      (at-least _ _ _ d hd (ga .2) (ceiling-is (pos 1000 *ℤ b) d .above hd .1)) (at-least _ _ _ e he (ga .3) (ceiling-is (pos 1000 *ℤ b) e .above he .1))
 
   pub quotient-neg : e <ℤ pos 0 → Holds (Bounds (lowQuotient a b d e) (highQuotient a b d e)) (divided u v)
   quotient-neg he =
@@ -104,5 +105,5 @@ module _ (a b d e : ℤ) (u v : Fraction) (p : Between a b u) (q : Between d e v
       let o = ends-ordered d e v q in
       let hd : d <ℤ pos 0 = omega (arith, linear) in
       over-neg a b d e (lowQuotient a b d e) (highQuotient a b d e) u (v .num) (v .den) (v .positive) (high-neg v e he (q .1)) p (q .0) (q .1)
-          (at-most-neg _ _ _ d hd (lb .2) (floor-is (pos 1000 *ℤ b) d .below hd .0)) (at-most-neg _ _ _ e he (lb .3) (floor-is (pos 1000 *ℤ b) e .below he .0))
-          (at-least-neg _ _ _ d hd (ga .0) (ceiling-is (pos 1000 *ℤ a) d .below hd .1)) (at-least-neg _ _ _ e he (ga .1) (ceiling-is (pos 1000 *ℤ a) e .below he .1))
+      (at-most-neg _ _ _ d hd (lb .2) (floor-is (pos 1000 *ℤ b) d .below hd .0)) (at-most-neg _ _ _ e he (lb .3) (floor-is (pos 1000 *ℤ b) e .below he .0))
+      (at-least-neg _ _ _ d hd (ga .0) (ceiling-is (pos 1000 *ℤ a) d .below hd .1)) (at-least-neg _ _ _ e he (ga .1) (ceiling-is (pos 1000 *ℤ a) e .below he .1))

@@ -4,7 +4,6 @@ ghost use Prim.Native.Nat.{_≤_, _^_};
 ghost use lib.IntN.{pos, natAbs, _*ℤ_};
 ghost use Rattle.exact.specs.Rounding.{floor, ceiling};
 ghost use Rattle.interval.specs.Rules.{kept, products, quotients, quotientsApart, least, greatest, spansZero, nearest, farthest};
-
 use crate::enclosures::Enclosure;
 use exact::ceil_div;
 use exact::floor_div;
@@ -37,7 +36,11 @@ pub fn spans_zero(lo: i32, hi: i32) -> bool
 pub fn nearest_size(lo: i32, hi: i32) -> i64
     ensures { λ r. ⌜ r ≡ nearest lo hi ⌝ }
 {
-    if spans_zero(lo, hi) { 0 } else { (lo as i64).abs().min((hi as i64).abs()) }
+    if spans_zero(lo, hi) {
+        0
+    } else {
+        (lo as i64).abs().min((hi as i64).abs())
+    }
 }
 
 pub fn farthest_size(lo: i32, hi: i32) -> i64

@@ -25,7 +25,10 @@ mod tests {
 
     #[test]
     fn sums_at_the_limit() -> Result<(), Fail> {
-        let (large, more) = (pair(1_500_000_000, 1_500_000_000), pair(600_000_000, 600_000_000));
+        let (large, more) = (
+            pair(1_500_000_000, 1_500_000_000),
+            pair(600_000_000, 600_000_000),
+        );
         check_eq(large.add(more), Enclosure::NoBounds)?;
         let limit = pair(2_000_000_000, 2_000_000_000);
         check_eq(limit.add(pair(0, 0)), limit)

@@ -6,7 +6,6 @@ ghost use Rattle.exact.specs.Fraction.{plus, minus, negated, times, absolute, l
 ghost use Rattle.exact.specs.Value.{Value, each, both, quotient};
 ghost use Rattle.interval.specs.Rules.{neg, add, sub, mul, div, abs, max, hull, common, branch, held, chi};
 ghost use Rattle.interval.specs.Meaning.{Holds, Chooses, Follows, Law1, Law2, HullLaw, CommonLaw, BranchLaw};
-
 use crate::enclosures::Branch;
 use crate::enclosures::Enclosure;
 use crate::enclosures::Enclosure::Bounds;

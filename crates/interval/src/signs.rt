@@ -4,7 +4,6 @@ ghost use mathlib.Core.Bool.{true};
 ghost use Rattle.exact.specs.Value.{Value};
 ghost use Rattle.interval.specs.Rules.{clear, signOf};
 ghost use Rattle.interval.specs.Meaning.{Holds, Shows, Away, isKnown};
-
 use crate::enclosures::Enclosure;
 use crate::enclosures::Enclosure::Bounds;
 use crate::enclosures::Sign;

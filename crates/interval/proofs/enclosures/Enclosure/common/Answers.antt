@@ -42,7 +42,7 @@ returns-then-lo-hi c =
     let e1 = simp toZ-ofZ at (c .min-hi .ensures .value) in
     let t = above (c .max-lo .result) (c .min-hi .result) (simp toZ-ofZ at (c .if-lo-hi .taken)) in
     common-follows (c .args .self) (c .args .other) NoBounds
-        (sym ((λ i. common (c .in-Bounds .is i) (c .in-Bounds-other .is i)) ∙ sym (λ i. cond (leZ (e0 i) (e1 i)) (kept (e0 i) (e1 i)) NoBounds) ∙ (λ i. cond (t i) (kept (c .max-lo .result) (c .min-hi .result)) NoBounds)))
+    (sym ((λ i. common (c .in-Bounds .is i) (c .in-Bounds-other .is i)) ∙ sym (λ i. cond (leZ (e0 i) (e1 i)) (kept (e0 i) (e1 i)) NoBounds) ∙ (λ i. cond (t i) (kept (c .max-lo .result) (c .min-hi .result)) NoBounds)))
 
 pub returns : need.returns
 unfolding common
@@ -60,4 +60,4 @@ returns c =
     let t = at-most (c .max-lo .result) (c .min-hi .result) (simp toZ-ofZ at (c .if-lo-hi .left)) in
     let k = simp toZ-ofZ at (c .keep .ensures) in
     common-follows (c .args .self) (c .args .other) (c .keep .result)
-        (k ∙ sym (λ i. cond (t i) (kept (c .max-lo .result) (c .min-hi .result)) NoBounds) ∙ (λ i. cond (leZ (e0 i) (e1 i)) (kept (e0 i) (e1 i)) NoBounds) ∙ sym (λ i. common (c .in-Bounds .is i) (c .in-Bounds-other .is i)))
+    (k ∙ sym (λ i. cond (t i) (kept (c .max-lo .result) (c .min-hi .result)) NoBounds) ∙ (λ i. cond (leZ (e0 i) (e1 i)) (kept (e0 i) (e1 i)) NoBounds) ∙ sym (λ i. common (c .in-Bounds .is i) (c .in-Bounds-other .is i)))
