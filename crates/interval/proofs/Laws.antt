@@ -34,7 +34,7 @@ both-true false b e = (e, absurd (mathlib.Core.Bool.true≢false (sym e)))
 pub kept-holds : (lo hi : ℤ) (v : Value) → Holds (Bounds lo hi) v → Holds (kept lo hi) v
 kept-holds lo hi v h = cond-if (λ E. Holds E v) (within lo && within hi) (Bounds lo hi) NoBounds (λ _. h) (λ _. tt)
 
-kept-range : (lo hi : ℤ) → InRange (kept lo hi)
+pub kept-range : (lo hi : ℤ) → InRange (kept lo hi)
 kept-range lo hi = cond-if InRange (within lo && within hi) (Bounds lo hi) NoBounds (λ e. both-true (within lo) (within hi) e) (λ _. tt)
 
 -- ---- only bounds, and a fraction, are left to show

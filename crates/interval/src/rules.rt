@@ -149,7 +149,8 @@ impl Enclosure {
         }
     }
 
-    fn held(self) -> Enclosure
+    // The enclosure itself, unless an end lies beyond the limit.
+    pub fn held(self) -> Enclosure
         ensures { λ r. ⌜ r ≡ held self ⌝ }
     {
         let Bounds { lo, hi } = self else {

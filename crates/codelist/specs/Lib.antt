@@ -1,0 +1,13 @@
+pub mod Bound
+pub mod Lines
+pub mod Lists
+pub mod Evaluate
+pub mod Exact
+pub mod Kinds
+pub mod Runs
+pub mod RunLaw
+pub mod Intervals
+pub mod IntervalLaw
+pub mod Tables
+pub mod Plain
+pub mod PlainLaw

@@ -1,0 +1,7 @@
+use crate::tables::ListTable;
+
+// A family of curves given as code lists.
+#[derive(Clone, Copy)]
+pub struct Lists {
+    pub table: ListTable,
+}
