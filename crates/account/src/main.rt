@@ -1,52 +1,104 @@
-// An account of a flame margin over a window of fuel openings: which cells are provably away from zero, and why.
-// The margin is x − r, for the opening x and the temperature r of a thermocouple. All numbers are counts (thousandths).
+// An account of three curves given as code lists: their lines with the entries over a cell, and for a flame margin which cells of
+// a window are provably away from zero, and why. All numbers are counts (thousandths).
 ghost use mathlib.Core.Path.{_≡_};
-ghost use Rattle.interval.specs.Rules.{sub};
-ghost use Rattle.interval.specs.declared.enclosures.Enclosure.the-variants.{Bounds};
 ghost use Rattle.account.specs.Cells.{halved, Narrower};
+use codelist::intervals::Intervals;
+use codelist::intervals::kind::IntervalKind;
+use codelist::lines::Line;
+use codelist::lists::CodeList;
+use codelist::places::Place;
+use codelist::plain::ListFamily;
+use codelist::plain::declared_lists::Lists;
+use codelist::running::run;
+use codelist::tables::ListTable;
+use family::cells::Cell;
+use family::families::Family;
+use family::readings::Reading;
+use family::rows::Row;
 use interval::enclosures::Enclosure;
 use interval::enclosures::Sign;
 use std::alloc::AllocError;
 use std::alloc::Global;
 use std::io;
 
-// The openings from lo to hi.
-#[derive(Clone, Copy)]
-struct Cell {
-    lo: i32,
-    hi: i32,
+// A list of those lines; none where a line is refused.
+fn list_of(lines: &[Line]) -> Option<CodeList> {
+    let [first, rest @ ..] = lines else {
+        return None;
+    };
+    let Ok(mut list) = CodeList::new(*first) else {
+        return None;
+    };
+    for line in rest {
+        if list.push(*line).is_err() {
+            return None;
+        }
+    }
+    Some(list)
 }
 
-// A cell that is not clear is halved while it is wider than this.
+// x·x − 4, (x − 2)(x + 2), and the margin x − r.
+fn curve(k: usize) -> Option<CodeList> {
+    match k {
+        0 => list_of(&[Line::X, Line::Mul(0, 0), Line::C(4000), Line::Sub(1, 2)]),
+        1 => list_of(
+            &[
+                Line::X,
+                Line::C(2000),
+                Line::Sub(0, 1),
+                Line::Add(0, 1),
+                Line::Mul(2, 3),
+            ],
+        ),
+        _ => list_of(&[Line::X, Line::R(0), Line::Sub(0, 1)]),
+    }
+}
+
+// Reading 0 is [30, 33]; the others are absent.
+fn margin_readings() -> Row {
+    let mut row = [None; 8];
+    if let Ok(r) = Reading::new(30, 33) {
+        row[0] = Some(r);
+    }
+    row
+}
+
+// A cell is halved while it is wider than this.
 const WIDTH: i64 = 10;
 
-// The margin's enclosure over a cell: the cell less the reading.
-fn margin(cell: Cell, reading: Enclosure) -> Enclosure
-    ensures { λ r. ⌜ r ≡ sub (Bounds (cell .lo) (cell .hi)) reading ⌝ }
-{
-    Enclosure::Bounds {
-        lo: cell.lo,
-        hi: cell.hi,
-    }.sub(reading)
-}
-
-// The two halves of a cell that is wider than the asked width; the middle is rounded down.
+// The two halves of a cell that is wider than the asked width; they meet at the middle.
 fn halves(cell: Cell) -> Option<(Cell, Cell)>
     ensures value { λ r. ⌜ r ≡ halved cell ⌝ }
     ensures narrower { λ r. ⌜ Narrower cell r ⌝ }
 {
-    let (lo, hi) = (cell.lo as i64, cell.hi as i64);
-    if hi - lo <= WIDTH {
+    if cell.hi as i64 - cell.lo as i64 <= WIDTH {
         return None;
     }
-    let c = (lo + hi).div_euclid(2) as i32;
+    let c = cell.middle();
     Some((Cell { lo: cell.lo, hi: c }, Cell { lo: c, hi: cell.hi }))
 }
 
-fn shown(heap: Global, e: Enclosure) -> Result<String, AllocError> {
+fn pair_text(heap: Global, e: Enclosure) -> Result<String, AllocError> {
     match e {
         Enclosure::NoBounds => String::from_str(heap, "no bounds"),
         Enclosure::Bounds { lo, hi } => format!(heap, "[{lo}, {hi}]"),
+    }
+}
+
+// A code line as its operation and operands.
+fn line_text(heap: Global, line: Line) -> Result<String, AllocError> {
+    match line {
+        Line::X => String::from_str(heap, "X"),
+        Line::C(v) => format!(heap, "C {v}"),
+        Line::R(n) => format!(heap, "R {n}"),
+        Line::Neg(i) => format!(heap, "NEG {i}"),
+        Line::Abs(i) => format!(heap, "ABS {i}"),
+        Line::Add(i, j) => format!(heap, "ADD {i} {j}"),
+        Line::Sub(i, j) => format!(heap, "SUB {i} {j}"),
+        Line::Mul(i, j) => format!(heap, "MUL {i} {j}"),
+        Line::Div(i, j) => format!(heap, "DIV {i} {j}"),
+        Line::Max(i, j) => format!(heap, "MAX {i} {j}"),
+        Line::Chi(s, q, r) => format!(heap, "CHI {s} {q} {r}"),
     }
 }
 
@@ -62,11 +114,23 @@ fn verdict(sign: Sign, wide: bool) -> &'static str {
     }
 }
 
+// Each line with its entry over the cell.
+fn show_entries(rt: &LibcRuntime, list: &CodeList, cell: Cell, row: &Row) -> io::Result<()> {
+    let mut kind = Intervals::new();
+    run(&mut kind, list, cell, row);
+    for (n, line) in list.lines().iter().enumerate() {
+        let text = line_text(rt.alloc(), *line)?;
+        let entry = pair_text(rt.alloc(), kind.entry(Place::clamped(n)))?;
+        println!(rt, "  {n} {text}: {entry}")?;
+    }
+    Ok(())
+}
+
 // One line for the cell, then its halves where it is neither clear nor narrow.
-fn account(rt: &LibcRuntime, cell: Cell, reading: Enclosure) -> io::Result<()> {
-    let e = margin(cell, reading);
+fn show_cells(rt: &LibcRuntime, lists: &Lists, k: usize, cell: Cell, row: &Row) -> io::Result<()> {
+    let e = lists.enclosure(k, cell, row);
     let parts = halves(cell);
-    let text = shown(rt.alloc(), e)?;
+    let text = pair_text(rt.alloc(), e)?;
     let said = verdict(e.sign(), parts.is_some());
     let (lo, hi) = (cell.lo, cell.hi);
     println!(rt, "cell {lo} to {hi}: margin in {text}: {said}")?;
@@ -76,15 +140,32 @@ fn account(rt: &LibcRuntime, cell: Cell, reading: Enclosure) -> io::Result<()> {
     let Some((left, right)) = parts else {
         return Ok(());
     };
-    account(rt, left, reading)?;
-    account(rt, right, reading)
+    show_cells(rt, lists, k, left, row)?;
+    show_cells(rt, lists, k, right, row)
 }
 
 fn main(rt: LibcRuntime) -> io::Result<()> {
+    let mut table = ListTable::new();
+    for k in 0..3 {
+        if let Some(list) = curve(k) {
+            let _taken = table.push(list);
+        }
+    }
+    let lists = Lists { table };
+    let row = margin_readings();
+    let cell = Cell { lo: 1000, hi: 2000 };
+    for k in 0..2usize {
+        let name = if k == 0 { "x*x - 4" } else { "(x - 2)*(x + 2)" };
+        println!(rt, "curve {k}, {name}, over 1000 to 2000")?;
+        if let Some(list) = lists.table.get(k) {
+            show_entries(&rt, list, cell, &row)?;
+        }
+        let answer = pair_text(rt.alloc(), lists.enclosure(k, cell, &row))?;
+        println!(rt, "  answer {answer}")?;
+    }
     println!(
         rt,
-        "margin x - r with r in [30, 33], openings x from 0 to 100, in counts"
+        "curve 2, margin x - r, reading 0 in [30, 33], openings 0 to 100"
     )?;
-    let reading = Enclosure::Bounds { lo: 30, hi: 33 };
-    account(&rt, Cell { lo: 0, hi: 100 }, reading)
+    show_cells(&rt, &lists, 2, Cell { lo: 0, hi: 100 }, &row)
 }

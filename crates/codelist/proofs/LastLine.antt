@@ -13,11 +13,13 @@ module _ (s : CodeList) (lines : List Line) (is : lines ≡ linesOf s) (q m : �
   size : length (linesOf s) ≡ s .len
   size = length-take-le (s .len) (s .lines) (omega (arith, s .few, s .sized))
 
-  place : m ≡ length (linesOf s) - 1
+  pub place : m ≡ length (linesOf s) - 1
   place = let e = ap length is in let z = size in omega (arith, s .few, s .some)
+
+  pub last-within : length (linesOf s) - 1 < length (linesOf s)
+  last-within = let z = size in omega (arith, s .some)
 
   pub last-entry : {E : Type 0} (es all : List E) (blank : E) → take (length (linesOf s)) es ≡ all → getD es m blank ≡ getD all (length (linesOf s) - 1) blank
   last-entry {E} es all blank e =
-      let z = size in
-      let h : length (linesOf s) - 1 < length (linesOf s) = omega (arith, s .some) in
+      let h = last-within in
       ap (λ (k : ℕ). getD es k blank) place ∙ sym (getD-take (length (linesOf s)) es (length (linesOf s) - 1) blank h) ∙ ap (λ (xs : List E). getD xs (length (linesOf s) - 1) blank) e

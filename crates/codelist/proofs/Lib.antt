@@ -1,3 +1,4 @@
 pub mod Listing
 pub mod Stepping
 pub mod LastLine
+pub mod Worked

@@ -17,7 +17,7 @@ use Rattle.codelist.specs.declared.lines.Line.{Line}
 use Rattle.codelist.specs.declared.lists.CodeList.{CodeList}
 use Rattle.codelist.specs.declared.plain.declared_lists.Lists.{Lists}
 use Rattle.codelist.specs.Lists.{linesOf}
-use Rattle.codelist.specs.Tables.{listsOf, listAt}
+use Rattle.codelist.specs.Tables.{listAt}
 use Rattle.codelist.specs.Evaluate.{entries}
 use Rattle.codelist.specs.Exact.{valueOf}
 use Rattle.codelist.specs.Kinds.{over}
@@ -36,7 +36,7 @@ answerBy None c row = NoBounds
 answerBy (Some l) c row = enclosureOf c row (linesOf l)
 
 abbrev pub plainCount : Lists → ℕ
-plainCount s = length (listsOf (s .table))
+plainCount s = s .table .len
 
 abbrev pub plainValue : Lists → ℕ → Temperatures → Fraction → Value
 plainValue s k t x = valueBy (listAt (s .table) k) t x

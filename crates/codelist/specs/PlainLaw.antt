@@ -76,10 +76,12 @@ list-range (Some l) c row =
 
 -- ---- the law
 few : (s : Lists) → plainCount s ≤ 1000
-few s = let e = length-take-le (s .table .len) (s .table .lists) (omega (arith, s .table .few, s .table .sized)) in omega (arith, s .table .few)
+few s = omega (arith, s .table .few)
 
 no-list : (s : Lists) (k : ℕ) → plainCount s ≤ k → listAt (s .table) k ≡ None
-no-list s k h = getD-past (listsOf (s .table)) k None h
+no-list s k h =
+    let e = length-take-le (s .table .len) (s .table .lists) (omega (arith, s .table .few, s .table .sized)) in
+    getD-past (listsOf (s .table)) k None (omega arith)
 
 pub plain-lawful : Lawful plainCount plainValue plainAnswer
 plain-lawful = record {

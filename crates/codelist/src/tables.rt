@@ -15,4 +15,13 @@ pub struct ListTable {
     ghost few: { len ≤ 8 },
 }
 
+impl ListTable {
+    // How many lists it has.
+    pub fn len(&self) -> usize
+        ensures { λ r. ⌜ r ≡ now (self .entry) .len ⌝ }
+    {
+        self.len
+    }
+}
+
 pub mod uses;

@@ -153,10 +153,10 @@ impl Enclosure {
     pub fn held(self) -> Enclosure
         ensures { λ r. ⌜ r ≡ held self ⌝ }
     {
-        let Bounds { lo, hi } = self else {
+        let Bounds { lo: a, hi: b } = self else {
             return NoBounds;
         };
-        keep(lo as i64, hi as i64)
+        keep(a as i64, b as i64)
     }
 
     // q where self lies below zero, r where above, else their hull. A line that is not chosen is not read.

@@ -34,7 +34,8 @@ impl Intervals {
     fn put(&mut self, at: Place, e: Enclosure)
         ensures { λ _. ⌜ tableOf (now (self .exit)) ≡ set (tableOf (now (self .entry))) (at .n) e ⌝ }
     {
-        self.entries[at.index()] = e;
+        let n = at.index();
+        self.entries[n] = e;
     }
 }
 

@@ -22,12 +22,6 @@ impl ListTable {
         }
     }
 
-    pub fn len(&self) -> usize
-        ensures { λ r. ⌜ r ≡ length (listsOf (now (self .entry))) ⌝ }
-    {
-        self.len
-    }
-
     // One list more; false, with the table as it was, where it is full.
     pub fn push(&mut self, list: CodeList) -> bool
         ensures answer { λ r. ⌜ r ≡ ltb (length (listsOf (now (self .entry)))) 8 ⌝ }
