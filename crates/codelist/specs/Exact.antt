@@ -1,19 +1,13 @@
 -- The exact value of a list at a point, for true temperatures. Points and temperatures are in counts, values in units.
 use mathlib.Core.List.{List}
-use Prim.Native.Nat.{ℕ, _*_, _-_}
-use native.Mathlib.Nat.{mul-pos}
-use native.Mathlib.Omega.{arith}
+use Prim.Native.Nat.{ℕ, _-_}
 use lib.IntN.{ℤ}
 use lib.ListN.{length, getD}
-use Rattle.exact.specs.Fraction.{Fraction, whole, plus, minus, negated, times, absolute, larger}
+use Rattle.exact.specs.Fraction.{Fraction, whole, inUnits, plus, minus, negated, times, absolute, larger}
 use Rattle.exact.specs.Value.{Value, none, some, each, both, quotient, choice}
 use Rattle.family.specs.Readings.{Temperatures}
 use Rattle.codelist.specs.declared.lines.Line.{Line}
 use Rattle.codelist.specs.Evaluate.{Operations, entries}
-
--- counts to units
-abbrev pub inUnits : Fraction → Fraction
-inUnits u = record { num = u .num; den = u .den * 1000; positive = mul-pos (u .positive) (omega arith) }
 
 -- ordinary arithmetic on fractions
 abbrev pub exactly : Temperatures → Fraction → Operations Value

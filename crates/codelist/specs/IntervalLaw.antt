@@ -7,38 +7,25 @@ use lib.ListN.{length}
 use borrow.Author.Differences.{ints}
 use Rattle.std.specs.declared.option.Option.{Option}
 use Rattle.std.specs.declared.option.Option.the-variants.{Some, None}
-use Rattle.exact.specs.Fraction.{Fraction, whole}
+use Rattle.exact.specs.Fraction.{Fraction, whole, inUnits}
 use Rattle.exact.specs.Value.{Value, none, some}
-use Rattle.exact.proofs.Ring.{Ex, lit, _⊗_, _≐_, ring2}
 use Rattle.interval.specs.declared.enclosures.Enclosure.{Enclosure}
 use Rattle.interval.specs.declared.enclosures.Enclosure.the-variants.{NoBounds, Bounds}
 use Rattle.interval.specs.Rules.{neg, add, sub, mul, div, abs, max, chi}
-use Rattle.interval.specs.Meaning.{Between, Holds}
+use Rattle.interval.specs.Meaning.{Holds}
 use Rattle.interval.proofs.Laws.{kept-holds, neg-follows, add-follows, sub-follows, mul-follows, div-follows, abs-follows, max-follows, chi-follows}
 use Rattle.family.specs.declared.cells.Cell.{Cell}
 use Rattle.family.specs.declared.readings.Reading.{Reading}
-use Rattle.family.specs.Cells.{Within, middle}
-use Rattle.family.proofs.Inside.{middle-inside}
-use Rattle.family.specs.Readings.{Allows}
+use Rattle.family.specs.Cells.{middle}
+use Rattle.family.proofs.Inside.{units-between, middle-inside}
+use Rattle.family.specs.Readings.{readingPair, Allows}
 use Rattle.codelist.specs.declared.intervals.Intervals.{Intervals}
 use Rattle.codelist.specs.Bound.{lineLimit}
-use Rattle.codelist.specs.Exact.{inUnits}
 use Rattle.codelist.specs.Kinds.{KindLaw, DivideLaw}
-use Rattle.codelist.specs.Intervals.{tableOf, readingPair, pairRules, pairVouches}
+use Rattle.codelist.specs.Intervals.{tableOf, pairRules, pairVouches}
 
 pub pair-sized : (s : Intervals) → length (tableOf s) ≡ lineLimit
 pair-sized s = s .sized
-
--- from counts to units: lo ≤ u ≤ hi, and 1000 times u/1000 is u
-scaled : (k d : ℤ) → k *ℤ (d *ℤ pos 1000) ≡ pos 1000 *ℤ (k *ℤ d)
-scaled k d = ring2 k d (λ K D. K ⊗ (D ⊗ lit (pos 1000)) ≐ lit (pos 1000) ⊗ (K ⊗ D)) refl
-
-pub units-between : (lo hi : ℤ) (u : Fraction) → Within lo hi u → Between lo hi (inUnits u)
-units-between lo hi u h =
-    let d = pos (u .den) in
-    let e = scaled lo d in
-    let f = scaled hi d in
-    (omega (arith, ints, h .0), omega (arith, ints, h .1))
 
 pub pair-law : KindLaw pairRules pairVouches
 pair-law = record {

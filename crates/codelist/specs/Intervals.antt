@@ -1,22 +1,15 @@
 -- The interval kind: enclosures with the rules on enclosures.
 use mathlib.Core.List.{List}
-use Rattle.std.specs.declared.option.Option.{Option}
-use Rattle.std.specs.declared.option.Option.the-variants.{Some, None}
 use Rattle.interval.specs.declared.enclosures.Enclosure.{Enclosure}
 use Rattle.interval.specs.declared.enclosures.Enclosure.the-variants.{NoBounds, Bounds}
 use Rattle.interval.specs.Rules.{neg, add, sub, mul, abs, max, chi, held}
 use Rattle.interval.specs.Meaning.{Holds}
-use Rattle.family.specs.declared.readings.Reading.{Reading}
+use Rattle.family.specs.Readings.{readingPair}
 use Rattle.codelist.specs.declared.intervals.Intervals.{Intervals}
 use Rattle.codelist.specs.Kinds.{Rules, Vouching}
 
 abbrev pub tableOf : Intervals → List Enclosure
 tableOf s = s .entries
-
--- a reading's ends; no bounds where it is absent
-abbrev pub readingPair : Option Reading → Enclosure
-readingPair None = NoBounds
-readingPair (Some r) = Bounds (r .lo) (r .hi)
 
 -- X is the cell, C v is [v,v]
 abbrev pub pairRules : Rules Enclosure

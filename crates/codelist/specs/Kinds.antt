@@ -6,7 +6,7 @@ use Prim.Native.Nat.{ℕ}
 use lib.IntN.{ℤ}
 use lib.ListN.{getD, set}
 use Rattle.std.specs.declared.option.Option.{Option}
-use Rattle.exact.specs.Fraction.{Fraction, whole, plus, minus, negated, times, absolute, larger}
+use Rattle.exact.specs.Fraction.{Fraction, whole, inUnits, plus, minus, negated, times, absolute, larger}
 use Rattle.exact.specs.Value.{Value, none, some, each, both, quotient, choice}
 use Rattle.family.specs.declared.cells.Cell.{Cell}
 use Rattle.family.specs.declared.readings.Reading.{Reading}
@@ -14,7 +14,6 @@ use Rattle.family.specs.Cells.{exists, middle, InCell}
 use Rattle.family.specs.Readings.{RowOf, readingAt, Allows}
 use Rattle.codelist.specs.declared.places.Place.{Place}
 use Rattle.codelist.specs.Evaluate.{Operations}
-use Rattle.codelist.specs.Exact.{inUnits}
 
 -- the rules of a kind; division stands apart
 pub record Rules (E : Type 0) : Type 0 where

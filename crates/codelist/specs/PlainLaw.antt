@@ -19,21 +19,21 @@ use Rattle.interval.specs.Meaning.{Holds, InRange}
 use Rattle.interval.proofs.OneEnd.{cond-if}
 use Rattle.interval.proofs.Laws.{kept-range, neg-follows, add-follows, sub-follows, mul-follows, div-follows, abs-follows, max-follows, chi-follows}
 use Rattle.family.specs.declared.cells.Cell.{Cell}
-use Rattle.family.specs.declared.readings.Reading.{Reading}
 use Rattle.family.specs.Cells.{exists, middle, InCell}
 use Rattle.family.specs.Readings.{Temperatures, RowOf, readingAt, Allowed}
 use Rattle.family.specs.Meaning.{Lawful}
-use Rattle.family.proofs.Inside.{reading-within}
+use Rattle.family.proofs.Inside.{reading-range}
 use Rattle.codelist.specs.declared.lines.Line.{Line}
 use Rattle.codelist.specs.declared.lists.CodeList.{CodeList}
 use Rattle.codelist.specs.declared.plain.declared_lists.Lists.{Lists}
+use Rattle.codelist.specs.declared.tables.ListTable.{ListTable}
 use Rattle.codelist.specs.Lists.{linesOf}
 use Rattle.codelist.specs.Tables.{listsOf, listAt}
 use Rattle.codelist.specs.Evaluate.{entries}
 use Rattle.codelist.specs.Exact.{exactly, values}
 use Rattle.codelist.specs.Kinds.{over}
 use Rattle.codelist.specs.RunLaw.{Keeps, keeps-at, vouched-at}
-use Rattle.codelist.specs.Intervals.{readingPair, pairRules, pairVouches}
+use Rattle.codelist.specs.Intervals.{pairRules, pairVouches}
 use Rattle.codelist.specs.IntervalLaw.{pair-law, pair-division}
 use Rattle.codelist.specs.Plain.{enclosureOf, valueBy, answerBy, plainCount, plainValue, plainAnswer}
 
@@ -43,10 +43,6 @@ list-holds None c row t x e h i = tt
 list-holds (Some l) c row t x e h i = vouched-at pairRules div pairVouches pair-law pair-division c row t x e h i (linesOf l) (length (linesOf l) - 1) .0
 
 -- ---- the range
-reading-range : (o : Option Reading) → InRange (readingPair o)
-reading-range None = tt
-reading-range (Some r) = reading-within r
-
 -- whatever the values are
 abbrev Ranged : Enclosure → Value → Value → Type 0
 Ranged e v w = InRange e
@@ -67,27 +63,31 @@ ranges c row t x = record {
   chi = λ e f g v v′ v″ w w′ w″ h k m. chi-follows e f g (chi e f g) refl .range;
 }
 
-list-range : (l : Option CodeList) (c : Cell) (row : RowOf) → InRange (answerBy l c row)
-list-range None c row = tt
-list-range (Some l) c row =
+pub lines-range : (c : Cell) (row : RowOf) (ls : List Line) → InRange (enclosureOf c row ls)
+lines-range c row ls =
     let t : Temperatures = λ _. whole (pos 0) in
     let x = whole (pos 0) in
-    keeps-at Ranged (over pairRules c row) div (exactly t x) quotient (exactly t x) quotient (ranges c row t x) (linesOf l) (length (linesOf l) - 1)
+    keeps-at Ranged (over pairRules c row) div (exactly t x) quotient (exactly t x) quotient (ranges c row t x) ls (length ls - 1)
+
+list-range : (l : Option CodeList) (c : Cell) (row : RowOf) → InRange (answerBy l c row)
+list-range None c row = tt
+list-range (Some l) c row = lines-range c row (linesOf l)
 
 -- ---- the law
-few : (s : Lists) → plainCount s ≤ 1000
-few s = omega (arith, s .table .few)
+-- a table has few lists, and none past its length
+pub table-few : (t : ListTable) → t .len ≤ 1000
+table-few t = omega (arith, t .few)
 
-no-list : (s : Lists) (k : ℕ) → plainCount s ≤ k → listAt (s .table) k ≡ None
-no-list s k h =
-    let e = length-take-le (s .table .len) (s .table .lists) (omega (arith, s .table .few, s .table .sized)) in
-    getD-past (listsOf (s .table)) k None (omega arith)
+pub no-list : (t : ListTable) (k : ℕ) → t .len ≤ k → listAt t k ≡ None
+no-list t k h =
+    let e = length-take-le (t .len) (t .lists) (omega (arith, t .few, t .sized)) in
+    getD-past (listsOf t) k None (omega arith)
 
 pub plain-lawful : Lawful plainCount plainValue plainAnswer
 plain-lawful = record {
-  few = few;
+  few = λ s. table-few (s .table);
   holds = λ s k c row t x h i. cond-if (λ e. Holds e (plainValue s k t x)) (exists c) (answerBy (listAt (s .table) k) c row) NoBounds (λ e. list-holds (listAt (s .table) k) c row t x e h i) (λ _. tt);
   range = λ s k c row. cond-if InRange (exists c) (answerBy (listAt (s .table) k) c row) NoBounds (λ _. list-range (listAt (s .table) k) c row) (λ _. tt);
-  no-curve = λ s k c row h. cond-if (λ e. e ≡ NoBounds) (exists c) (answerBy (listAt (s .table) k) c row) NoBounds (λ _. ap (λ (l : Option CodeList). answerBy l c row) (no-list s k h)) (λ _. refl);
+  no-curve = λ s k c row h. cond-if (λ e. e ≡ NoBounds) (exists c) (answerBy (listAt (s .table) k) c row) NoBounds (λ _. ap (λ (l : Option CodeList). answerBy l c row) (no-list (s .table) k h)) (λ _. refl);
   no-cell = λ s k c row h. ap (λ (b : Bool). cond b (answerBy (listAt (s .table) k) c row) NoBounds) h;
 }

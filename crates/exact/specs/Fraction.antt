@@ -48,3 +48,7 @@ absolute u = record { num = pos (natAbs (u .num)); den = u .den; positive = u .p
 
 abbrev pub larger : Fraction → Fraction → Fraction
 larger u v = cond (less u v) v u
+
+-- counts to units: a thousandth of it
+abbrev pub inUnits : Fraction → Fraction
+inUnits u = record { num = u .num; den = u .den * 1000; positive = mul-pos (u .positive) (omega arith) }

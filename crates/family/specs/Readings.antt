@@ -11,6 +11,8 @@ use Rattle.std.specs.declared.option.Option.the-variants.{Some, None}
 use Rattle.std.specs.declared.result.Result.{Result}
 use Rattle.std.specs.declared.result.Result.the-variants.{Ok, Err}
 use Rattle.exact.specs.Fraction.{Fraction}
+use Rattle.interval.specs.declared.enclosures.Enclosure.{Enclosure}
+use Rattle.interval.specs.declared.enclosures.Enclosure.the-variants.{NoBounds, Bounds}
 use Rattle.family.specs.declared.readings.Reading.{Reading}
 use Rattle.family.specs.declared.readings.ReadingRefusal.{ReadingRefusal}
 use Rattle.family.specs.declared.readings.ReadingRefusal.the-variants.{Ends}
@@ -35,6 +37,11 @@ RowOf = List (Option Reading)
 
 abbrev pub readingAt : RowOf → ℕ → Option Reading
 readingAt row n = getD row n None
+
+-- a reading's enclosure: its ends, or no bounds where it is absent
+abbrev pub readingPair : Option Reading → Enclosure
+readingPair None = NoBounds
+readingPair (Some r) = Bounds (r .lo) (r .hi)
 
 -- the true temperatures, by the reading's number, in counts
 abbrev pub Temperatures : Type 0

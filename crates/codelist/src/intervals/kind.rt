@@ -3,7 +3,7 @@ ghost use mathlib.Core.Path.{_≡_};
 ghost use lib.ListN.{getD, set, replicate};
 ghost use Rattle.interval.specs.declared.enclosures.Enclosure.the-variants.{NoBounds};
 ghost use Rattle.interval.specs.Rules.{limit, div};
-ghost use Rattle.codelist.specs.Intervals.{pairRules, pairVouches, tableOf, readingPair};
+ghost use Rattle.codelist.specs.Intervals.{pairRules, pairVouches, tableOf};
 ghost use Rattle.codelist.specs.IntervalLaw.{pair-law, pair-division, pair-sized};
 ghost use Rattle.codelist.specs.Bound.{lineLimit};
 use crate::intervals::Intervals;
@@ -12,6 +12,7 @@ use crate::places::LINES;
 use crate::places::Place;
 use family::cells::Cell;
 use family::readings::Reading;
+use family::rows::reading_pair;
 use interval::enclosures::Enclosure;
 
 impl Intervals {
@@ -119,18 +120,5 @@ pub impl Kind for Intervals as IntervalKind {
     fn div(&mut self, at: Place, i: Place, j: Place) {
         let e = self.entry(i).div(self.entry(j));
         self.put(at, e);
-    }
-}
-
-// The enclosure of a reading: its ends, or no bounds where it is absent.
-fn reading_pair(r: Option<Reading>) -> Enclosure
-    ensures { λ e. ⌜ e ≡ readingPair r ⌝ }
-{
-    match r {
-        Some(r) => Enclosure::Bounds {
-            lo: r.lo(),
-            hi: r.hi(),
-        },
-        None => Enclosure::NoBounds,
     }
 }

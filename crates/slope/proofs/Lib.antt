@@ -1,0 +1,5 @@
+pub mod Holding
+pub mod Mean
+pub mod Steps
+pub mod Keeps
+pub mod Answering

@@ -1,0 +1,4 @@
+pub mod Kind
+pub mod KindLaws
+pub mod Family
+pub mod FamilyLaw
