@@ -1,9 +1,7 @@
-// An account of three curves given as code lists: their lines with the entries over a cell, and for a flame margin which cells of
-// a window are provably away from zero, and why. All numbers are counts (thousandths).
+// An account of curves given as code lists: their lines with the entries over a cell, their enclosures by lists and by slopes, and for
+// a flame margin which cells of a window are provably away from zero, and why. All numbers are counts (thousandths).
 ghost use mathlib.Core.Path.{_≡_};
 ghost use Rattle.account.specs.Cells.{halved, Narrower};
-use codelist::intervals::Intervals;
-use codelist::intervals::kind::IntervalKind;
 use codelist::lines::Line;
 use codelist::lists::CodeList;
 use codelist::places::Place;
@@ -17,6 +15,10 @@ use family::readings::Reading;
 use family::rows::Row;
 use interval::enclosures::Enclosure;
 use interval::enclosures::Sign;
+use slopes::asking::SlopeFamily;
+use slopes::lists::SlopeLists;
+use slopes::tables::Slopes;
+use slopes::tables::kind::SlopeKind;
 use std::alloc::AllocError;
 use std::alloc::Global;
 use std::io;
@@ -37,7 +39,7 @@ fn list_of(lines: &[Line]) -> Option<CodeList> {
     Some(list)
 }
 
-// x·x − 4, (x − 2)(x + 2), and the margin x − r.
+// x·x − 4, (x − 2)(x + 2), the margin x − r, and |x·x + 5x| + x + 1.
 fn curve(k: usize) -> Option<CodeList> {
     match k {
         0 => list_of(&[Line::X, Line::Mul(0, 0), Line::C(4000), Line::Sub(1, 2)]),
@@ -50,7 +52,20 @@ fn curve(k: usize) -> Option<CodeList> {
                 Line::Mul(2, 3),
             ],
         ),
-        _ => list_of(&[Line::X, Line::R(0), Line::Sub(0, 1)]),
+        2 => list_of(&[Line::X, Line::R(0), Line::Sub(0, 1)]),
+        _ => list_of(
+            &[
+                Line::X,
+                Line::Mul(0, 0),
+                Line::C(5000),
+                Line::Mul(0, 2),
+                Line::Add(1, 3),
+                Line::Abs(4),
+                Line::Add(5, 0),
+                Line::C(1000),
+                Line::Add(6, 7),
+            ],
+        ),
     }
 }
 
@@ -114,16 +129,36 @@ fn verdict(sign: Sign, wide: bool) -> &'static str {
     }
 }
 
-// Each line with its entry over the cell.
+// Each line with its entry over the cell: V over the cell, U at its middle, the slope S.
 fn show_entries(rt: &LibcRuntime, list: &CodeList, cell: Cell, row: &Row) -> io::Result<()> {
-    let mut kind = Intervals::new();
+    let mut kind = Slopes::new();
     run(&mut kind, list, cell, row);
     for (n, line) in list.lines().iter().enumerate() {
+        let e = kind.entry(Place::clamped(n));
         let text = line_text(rt.alloc(), *line)?;
-        let entry = pair_text(rt.alloc(), kind.entry(Place::clamped(n)))?;
-        println!(rt, "  {n} {text}: {entry}")?;
+        let v = pair_text(rt.alloc(), e.v)?;
+        let u = pair_text(rt.alloc(), e.u)?;
+        let s = pair_text(rt.alloc(), e.s)?;
+        println!(rt, "  {n} {text}: V {v}, U {u}, S {s}")?;
     }
     Ok(())
+}
+
+// The answers of both families over a cell.
+fn show_answers(
+    rt: &LibcRuntime,
+    table: ListTable,
+    k: usize,
+    cell: Cell,
+    row: &Row,
+) -> io::Result<()> {
+    let plain = pair_text(rt.alloc(), Lists { table }.enclosure(k, cell, row))?;
+    let sloped = pair_text(rt.alloc(), SlopeLists { table }.enclosure(k, cell, row))?;
+    let (lo, hi) = (cell.lo, cell.hi);
+    println!(
+        rt,
+        "  over {lo} to {hi}: by lists {plain}, by slopes {sloped}"
+    )
 }
 
 // One line for the cell, then its halves where it is neither clear nor narrow.
@@ -144,28 +179,40 @@ fn show_cells(rt: &LibcRuntime, lists: &Lists, k: usize, cell: Cell, row: &Row) 
     show_cells(rt, lists, k, right, row)
 }
 
+fn show_curve(rt: &LibcRuntime, table: ListTable, k: usize, row: &Row) -> io::Result<()> {
+    let cell = Cell { lo: 1000, hi: 2000 };
+    if let Some(list) = table.get(k) {
+        show_entries(rt, list, cell, row)?;
+    }
+    show_answers(rt, table, k, cell, row)
+}
+
 fn main(rt: LibcRuntime) -> io::Result<()> {
     let mut table = ListTable::new();
-    for k in 0..3 {
+    for k in 0..4 {
         if let Some(list) = curve(k) {
             let _taken = table.push(list);
         }
     }
-    let lists = Lists { table };
     let row = margin_readings();
-    let cell = Cell { lo: 1000, hi: 2000 };
-    for k in 0..2usize {
-        let name = if k == 0 { "x*x - 4" } else { "(x - 2)*(x + 2)" };
-        println!(rt, "curve {k}, {name}, over 1000 to 2000")?;
-        if let Some(list) = lists.table.get(k) {
-            show_entries(&rt, list, cell, &row)?;
-        }
-        let answer = pair_text(rt.alloc(), lists.enclosure(k, cell, &row))?;
-        println!(rt, "  answer {answer}")?;
+    println!(rt, "curve 0, x*x - 4")?;
+    show_curve(&rt, table, 0, &row)?;
+    println!(rt, "curve 1, (x - 2)*(x + 2)")?;
+    show_curve(&rt, table, 1, &row)?;
+    println!(rt, "curve 2, margin x - r, reading 0 in [30, 33]")?;
+    show_cells(&rt, &Lists { table }, 2, Cell { lo: 0, hi: 100 }, &row)?;
+    println!(rt, "curve 3, |x*x + 5x| + x + 1")?;
+    for lo in [-10000, -6000, -5830, -1000, 0] {
+        show_answers(&rt, table, 3, Cell { lo, hi: lo + 100 }, &row)?;
     }
-    println!(
-        rt,
-        "curve 2, margin x - r, reading 0 in [30, 33], openings 0 to 100"
-    )?;
-    show_cells(&rt, &lists, 2, Cell { lo: 0, hi: 100 }, &row)
+    show_answers(
+        &rt,
+        table,
+        3,
+        Cell {
+            lo: -10000,
+            hi: 10000,
+        },
+        &row,
+    )
 }

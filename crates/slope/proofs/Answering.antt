@@ -72,10 +72,11 @@ joined-bounds (Bounds a b) (Bounds d e) (some g) f rv rw hb h k l =
 module _ (c : Cell) (p : Fraction) (inside : InCell c p) (i : Slope) where
   sum-holds : (f g : Fraction) → Holds (i .u) (some g) → Slopes (gap c p) (i .s) f g → (y : Value) × Holds (add (i .u) (mul (i .s) (reach c))) y × Like y f
   sum-holds f g m s =
-      let t = slope-of (gap c p) f g (i .s) s in
-      (both plus (some g) (both times (t .0) (some (gap c p)))
-      , add-holds (i .u) (mul (i .s) (reach c)) (some g) (both times (t .0) (some (gap c p))) m (mul-holds (i .s) (reach c) (t .0) (some (gap c p)) (t .1) (reach-holds c p inside))
-      , arrives (gap c p) f g (t .0) (t .2))
+      let t = slope-of (gap c p) f g (i .s) s in (
+        both plus (some g) (both times (t .0) (some (gap c p))),
+        add-holds (i .u) (mul (i .s) (reach c)) (some g) (both times (t .0) (some (gap c p))) m (mul-holds (i .s) (reach c) (t .0) (some (gap c p)) (t .1) (reach-holds c p inside)),
+        arrives (gap c p) f g (t .0) (t .2),
+      )
 
   pub answer-holds : (x m : Value) → Vouches (gap c p) i x m → Holds (answerOf c i) x
   answer-holds x m h = go (i .v) x m (h .point) (h .inside) (h .middle) (h .sloped)

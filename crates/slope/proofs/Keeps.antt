@@ -49,48 +49,54 @@ step2 op δ i j S h (some f) (some f′) (some g) none p q = tt
 step2 op δ i j S h (some f) (some f′) (some g) (some g′) p q = h f f′ g g′ p q
 
 pub neg-keeps : (i : Slope) → Law1 (each negated) i (negSlope i)
-neg-keeps i δ x m p = record
-  { point = neg-holds (i .v) x (p .point)
-  ; inside = neg-holds (i .v) m (p .inside)
-  ; middle = neg-holds (i .u) m (p .middle)
-  ; sloped = step1 negated δ i (neg (i .s)) (λ f f′ l. neg-has δ f f′ (i .s) (l .sloped)) x m p }
+neg-keeps i δ x m p = record {
+  point = neg-holds (i .v) x (p .point);
+  inside = neg-holds (i .v) m (p .inside);
+  middle = neg-holds (i .u) m (p .middle);
+  sloped = step1 negated δ i (neg (i .s)) (λ f f′ l. neg-has δ f f′ (i .s) (l .sloped)) x m p;
+}
 
 pub abs-keeps : (i : Slope) → Law1 (each absolute) i (absSlope i)
-abs-keeps i δ x m p = record
-  { point = abs-holds (i .v) x (p .point)
-  ; inside = abs-holds (i .v) m (p .inside)
-  ; middle = abs-holds (i .u) m (p .middle)
-  ; sloped = step1 absolute δ i (absSlope i .s) (λ f f′ l. bent-has δ f f′ (i .v) (i .s) (l .point) (l .inside) (l .sloped)) x m p }
+abs-keeps i δ x m p = record {
+  point = abs-holds (i .v) x (p .point);
+  inside = abs-holds (i .v) m (p .inside);
+  middle = abs-holds (i .u) m (p .middle);
+  sloped = step1 absolute δ i (absSlope i .s) (λ f f′ l. bent-has δ f f′ (i .v) (i .s) (l .point) (l .inside) (l .sloped)) x m p;
+}
 
 pub add-keeps : (i j : Slope) → Law2 (both plus) i j (addSlope i j)
-add-keeps i j δ x m y n p q = record
-  { point = add-holds (i .v) (j .v) x y (p .point) (q .point)
-  ; inside = add-holds (i .v) (j .v) m n (p .inside) (q .inside)
-  ; middle = add-holds (i .u) (j .u) m n (p .middle) (q .middle)
-  ; sloped = step2 plus δ i j (add (i .s) (j .s)) (λ f f′ g g′ l k. add-has δ f f′ (i .s) (l .sloped) g g′ (j .s) (k .sloped)) x m y n p q }
+add-keeps i j δ x m y n p q = record {
+  point = add-holds (i .v) (j .v) x y (p .point) (q .point);
+  inside = add-holds (i .v) (j .v) m n (p .inside) (q .inside);
+  middle = add-holds (i .u) (j .u) m n (p .middle) (q .middle);
+  sloped = step2 plus δ i j (add (i .s) (j .s)) (λ f f′ g g′ l k. add-has δ f f′ (i .s) (l .sloped) g g′ (j .s) (k .sloped)) x m y n p q;
+}
 
 pub sub-keeps : (i j : Slope) → Law2 (both minus) i j (subSlope i j)
-sub-keeps i j δ x m y n p q = record
-  { point = sub-holds (i .v) (j .v) x y (p .point) (q .point)
-  ; inside = sub-holds (i .v) (j .v) m n (p .inside) (q .inside)
-  ; middle = sub-holds (i .u) (j .u) m n (p .middle) (q .middle)
-  ; sloped = step2 minus δ i j (sub (i .s) (j .s)) (λ f f′ g g′ l k. sub-has δ f f′ (i .s) (l .sloped) g g′ (j .s) (k .sloped)) x m y n p q }
+sub-keeps i j δ x m y n p q = record {
+  point = sub-holds (i .v) (j .v) x y (p .point) (q .point);
+  inside = sub-holds (i .v) (j .v) m n (p .inside) (q .inside);
+  middle = sub-holds (i .u) (j .u) m n (p .middle) (q .middle);
+  sloped = step2 minus δ i j (sub (i .s) (j .s)) (λ f f′ g g′ l k. sub-has δ f f′ (i .s) (l .sloped) g g′ (j .s) (k .sloped)) x m y n p q;
+}
 
 pub mul-keeps : (i j : Slope) → Law2 (both times) i j (mulSlope i j)
-mul-keeps i j δ x m y n p q = record
-  { point = mul-holds (i .v) (j .v) x y (p .point) (q .point)
-  ; inside = mul-holds (i .v) (j .v) m n (p .inside) (q .inside)
-  ; middle = mul-holds (i .u) (j .u) m n (p .middle) (q .middle)
-  ; sloped = step2 times δ i j (mulSlope i j .s)
-        (λ f f′ g g′ l k. mul-has δ f f′ (i .s) (l .sloped) g g′ (j .s) (k .sloped) (i .v) (j .u) (l .point) (k .middle)) x m y n p q }
+mul-keeps i j δ x m y n p q = record {
+  point = mul-holds (i .v) (j .v) x y (p .point) (q .point);
+  inside = mul-holds (i .v) (j .v) m n (p .inside) (q .inside);
+  middle = mul-holds (i .u) (j .u) m n (p .middle) (q .middle);
+  sloped = step2 times δ i j (mulSlope i j .s)
+      (λ f f′ g g′ l k. mul-has δ f f′ (i .s) (l .sloped) g g′ (j .s) (k .sloped) (i .v) (j .u) (l .point) (k .middle)) x m y n p q;
+}
 
 pub max-keeps : (i j : Slope) → Law2 (both larger) i j (maxSlope i j)
-max-keeps i j δ x m y n p q = record
-  { point = max-holds (i .v) (j .v) x y (p .point) (q .point)
-  ; inside = max-holds (i .v) (j .v) m n (p .inside) (q .inside)
-  ; middle = max-holds (i .u) (j .u) m n (p .middle) (q .middle)
-  ; sloped = step2 larger δ i j (maxSlope i j .s)
-        (λ f f′ g g′ l k. larger-has δ f f′ g g′ (i .v) (j .v) (i .s) (j .s) (l .point) (l .inside) (k .point) (k .inside) (l .sloped) (k .sloped)) x m y n p q }
+max-keeps i j δ x m y n p q = record {
+  point = max-holds (i .v) (j .v) x y (p .point) (q .point);
+  inside = max-holds (i .v) (j .v) m n (p .inside) (q .inside);
+  middle = max-holds (i .u) (j .u) m n (p .middle) (q .middle);
+  sloped = step2 larger δ i j (maxSlope i j .s)
+      (λ f f′ g g′ l k. larger-has δ f f′ g g′ (i .v) (j .v) (i .s) (j .s) (l .point) (l .inside) (k .point) (k .inside) (l .sloped) (k .sloped)) x m y n p q;
+}
 
 -- ---- the quotient, which a zero divisor lacks
 unsloped : (δ : Fraction) (S : Enclosure) (x : Value) → Sloped δ S x none
@@ -104,17 +110,18 @@ div-sloped δ i j (some f) none (some g) n p q h = unsloped δ (divSlope i j .s)
 div-sloped δ i j (some f) (some f′) (some g) none p q h = unsloped δ (divSlope i j .s) (divided f g)
 div-sloped δ i j (some f) (some f′) (some g) (some g′) p q h =
     divided-by (λ v. Sloped δ (divSlope i j .s) v (divided f′ g′)) f g tt
-        (λ z nz e. divided-by (λ v. Holds (div (i .u) (j .u)) v → Sloped δ (divSlope i j .s) (some z) v) f′ g′ (λ _. tt)
-            (λ z′ _ e′ k. div-has δ f f′ (i .s) (p .sloped) g g′ (j .s) (q .sloped) (j .v) (div (i .u) (j .u)) z z′ (q .point) k nz e e′) h)
+    (λ z nz e. divided-by (λ v. Holds (div (i .u) (j .u)) v → Sloped δ (divSlope i j .s) (some z) v) f′ g′ (λ _. tt)
+    (λ z′ _ e′ k. div-has δ f f′ (i .s) (p .sloped) g g′ (j .s) (q .sloped) (j .v) (div (i .u) (j .u)) z z′ (q .point) k nz e e′) h)
 
 pub div-keeps : (i j : Slope) → Law2 quotient i j (divSlope i j)
 div-keeps i j δ x m y n p q =
     let k = div-holds (i .u) (j .u) m n (p .middle) (q .middle) in
-    record
-      { point = div-holds (i .v) (j .v) x y (p .point) (q .point)
-      ; inside = div-holds (i .v) (j .v) m n (p .inside) (q .inside)
-      ; middle = k
-      ; sloped = div-sloped δ i j x m y n p q k }
+    record {
+      point = div-holds (i .v) (j .v) x y (p .point) (q .point);
+      inside = div-holds (i .v) (j .v) m n (p .inside) (q .inside);
+      middle = k;
+      sloped = div-sloped δ i j x m y n p q k;
+    }
 
 -- ---- the choice
 lacking : (δ : Fraction) (x m : Value) → Sloped δ NoBounds x m
@@ -144,15 +151,17 @@ chooses (Bounds a b) (some s) h = cond-by (λ B. Chooses B (some s)) b (pos 0) F
   where
     is-negative : (n : ℤ) → n <ℤ pos 0 → ltZ n (pos 0) ≡ true
     is-negative n h = grind (arith, ints)
+
     is-positive : (n : ℤ) → pos 0 <ℤ n → ltZ n (pos 0) ≡ false
     is-positive n h = grind (arith, ints)
 
 pub chi-keeps : (i j k : Slope) → Law3 choice i j k (chiSlope i j k)
-chi-keeps i j k δ x m x′ m′ x″ m″ p q r = record
-  { point = chi-holds (i .v) (j .v) (k .v) x x′ x″ (p .point) (q .point) (r .point)
-  ; inside = chi-holds (i .v) (j .v) (k .v) m m′ m″ (p .inside) (q .inside) (r .inside)
-  ; middle = chi-holds (i .u) (j .u) (k .u) m m′ m″ (p .middle) (q .middle) (r .middle)
-  ; sloped = chosen-sloped δ (branch (i .v)) (j .s) (k .s) x m x′ m′ x″ m″ (chooses (i .v) x (p .point)) (chooses (i .v) m (p .inside)) (q .sloped) (r .sloped) }
+chi-keeps i j k δ x m x′ m′ x″ m″ p q r = record {
+  point = chi-holds (i .v) (j .v) (k .v) x x′ x″ (p .point) (q .point) (r .point);
+  inside = chi-holds (i .v) (j .v) (k .v) m m′ m″ (p .inside) (q .inside) (r .inside);
+  middle = chi-holds (i .u) (j .u) (k .u) m m′ m″ (p .middle) (q .middle) (r .middle);
+  sloped = chosen-sloped δ (branch (i .v)) (j .s) (k .s) x m x′ m′ x″ m″ (chooses (i .v) x (p .point)) (chooses (i .v) m (p .inside)) (q .sloped) (r .sloped);
+}
 
 -- ---- the point, a constant, a temperature
 pub at-count : (z : ℤ) → Holds (at z) (some (inUnits (whole z)))
@@ -166,11 +175,12 @@ no-slope : (δ f : Fraction) → minus f f ≃ times (whole (pos 0)) δ
 no-slope δ f = ring4 (f .num) (pos (f .den)) (δ .num) (pos (δ .den)) (λ N D K E. (N ⊗ D ⊕ ⊖ N ⊗ D) ⊗ (lit (pos 1) ⊗ E) ≐ (lit (pos 0) ⊗ K) ⊗ (D ⊗ D)) refl
 
 pub x-keeps : (c : Cell) (p : Fraction) → exists c ≡ true → InCell c p → Vouches (gap c p) (xSlope c) (some (inUnits p)) (some (inUnits (whole (middle c))))
-x-keeps c p there inside = record
-  { point = kept-holds (c .lo) (c .hi) (some (inUnits p)) (units-between (c .lo) (c .hi) p inside)
-  ; inside = kept-holds (c .lo) (c .hi) (some (inUnits (whole (middle c)))) (units-between (c .lo) (c .hi) (whole (middle c)) (middle-inside c there))
-  ; middle = at-count (middle c)
-  ; sloped = (whole (pos 1), (record { le = tt }, record { le = tt }), one-times (inUnits p) (inUnits (whole (middle c)))) }
+x-keeps c p there inside = record {
+  point = kept-holds (c .lo) (c .hi) (some (inUnits p)) (units-between (c .lo) (c .hi) p inside);
+  inside = kept-holds (c .lo) (c .hi) (some (inUnits (whole (middle c)))) (units-between (c .lo) (c .hi) (whole (middle c)) (middle-inside c there));
+  middle = at-count (middle c);
+  sloped = (whole (pos 1), (record { le = tt }, record { le = tt }), one-times (inUnits p) (inUnits (whole (middle c))));
+}
 
 pub constant-keeps : (δ : Fraction) (z : ℤ) → Vouches δ (constantSlope z) (some (inUnits (whole z))) (some (inUnits (whole z)))
 constant-keeps δ z = record { point = at-count z; inside = at-count z; middle = at-count z; sloped = (whole (pos 0), (record { le = tt }, record { le = tt }), no-slope δ (inUnits (whole z))) }

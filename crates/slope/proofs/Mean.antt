@@ -35,7 +35,7 @@ module _ (δ f f′ s : Fraction) (p : minus f f′ ≃ times s δ) where
   mul-slope g g′ t q = then2 (minus (times f g) (times f′ g′)) (plus (times f (minus g g′)) (times (minus f f′) g′)) (plus (times f (times t δ)) (times (times s δ) g′)) (times (plus (times f t) (times s g′)) δ)
       (fring4 f g f′ g′ (λ F G F′ G′. F ⊠ G ⊟ F′ ⊠ G′ ≑ F ⊠ (G ⊟ G′) ⊞ (F ⊟ F′) ⊠ G′) refl)
       (plus-≃ (times f (minus g g′)) (times f (times t δ)) (times (minus f f′) g′) (times (times s δ) g′)
-          (times-≃ f f (minus g g′) (times t δ) refl q) (times-≃ (minus f f′) (times s δ) g′ g′ p refl))
+      (times-≃ f f (minus g g′) (times t δ) refl q) (times-≃ (minus f f′) (times s δ) g′ g′ p refl))
       (fring5 f t s g′ δ (λ F T S G D. F ⊠ (T ⊠ D) ⊞ (S ⊠ D) ⊠ G ≑ (F ⊠ T ⊞ S ⊠ G) ⊠ D) refl)
 
 -- ---- quotients
@@ -71,19 +71,23 @@ div-slope δ f f′ s g g′ t q q′ r pf pg nz qf qf′ rs = cancel-≃ (minus
   where
     w : Fraction
     w = times q′ (times t δ)
+
     m : Fraction
     m = minus (times s δ) w
+
     q′g : times q′ g ≃ plus w f′
     q′g = ≃-trans (times q′ g) (plus (times q′ (minus g g′)) (times q′ g′)) (plus w f′)
         (fring3 q′ g g′ (λ Q G H. Q ⊠ G ≑ Q ⊠ (G ⊟ H) ⊞ Q ⊠ H) refl)
         (plus-≃ (times q′ (minus g g′)) w (times q′ g′) f′ (times-≃ q′ q′ (minus g g′) (times t δ) refl pg) qf′)
+
     left : times (minus q q′) g ≃ m
     left = ≃-trans (times (minus q q′) g) (minus (times q g) (times q′ g)) m
         (fring3 q q′ g (λ Q R G. (Q ⊟ R) ⊠ G ≑ Q ⊠ G ⊟ R ⊠ G) refl)
         (then2 (minus (times q g) (times q′ g)) (minus f (plus w f′)) (minus (minus f f′) w) m
-            (minus-≃ (times q g) f (times q′ g) (plus w f′) qf q′g)
-            (fring3 f w f′ (λ F W H. F ⊟ (W ⊞ H) ≑ F ⊟ H ⊟ W) refl)
-            (minus-≃ (minus f f′) (times s δ) w w pf refl))
+        (minus-≃ (times q g) f (times q′ g) (plus w f′) qf q′g)
+        (fring3 f w f′ (λ F W H. F ⊟ (W ⊞ H) ≑ F ⊟ H ⊟ W) refl)
+        (minus-≃ (minus f f′) (times s δ) w w pf refl))
+
     right : m ≃ times (times r δ) g
     right = then2 m (times (minus s (times q′ t)) δ) (times (times r g) δ) (times (times r δ) g)
         (fring4 s δ q′ t (λ S D Q T. S ⊠ D ⊟ Q ⊠ (T ⊠ D) ≑ (S ⊟ Q ⊠ T) ⊠ D) refl)
@@ -119,6 +123,7 @@ mean-at lo hi s t p (pos zero) m h bs bt lt ls = (s, bs, e)
   where
     mm : pos 0 <ℤ pos m
     mm = omega (arith, ints)
+
     e : p ≃ times s (record { num = pos zero; den = m; positive = h })
     e =
         let y = p .num in
@@ -134,32 +139,38 @@ mean-at lo hi s t p (pos (suc n)) m h bs bt lt ls = (r, (low-≼ lo t r (bt .0) 
   where
     r : Fraction
     r = record { num = p .num *ℤ pos m; den = p .den * suc n; positive = mul-pos (p .positive) (omega arith) }
+
     tr : t ≼ r
     tr =
         let l = ring3 (t .num) (pos (suc n)) (pos (p .den)) (λ C N Z. (C ⊗ N) ⊗ Z ≐ C ⊗ (Z ⊗ N)) refl in
         let k = ring3 (p .num) (pos (t .den)) (pos m) (λ Y D M. Y ⊗ (D ⊗ M) ≐ (Y ⊗ M) ⊗ D) refl in
         omega (arith, linear)
+
     rs : r ≼ s
     rs =
         let l = ring3 (s .num) (pos (suc n)) (pos (p .den)) (λ C N Z. (C ⊗ N) ⊗ Z ≐ C ⊗ (Z ⊗ N)) refl in
         let k = ring3 (p .num) (pos (s .den)) (pos m) (λ Y D M. Y ⊗ (D ⊗ M) ≐ (Y ⊗ M) ⊗ D) refl in
         omega (arith, linear)
+
     e : p ≃ times r (record { num = pos (suc n); den = m; positive = h })
     e = ring4 (p .num) (pos (p .den)) (pos (suc n)) (pos m) (λ Y Z N M. Y ⊗ ((Z ⊗ N) ⊗ M) ≐ ((Y ⊗ M) ⊗ N) ⊗ Z) refl
 mean-at lo hi s t p (negsuc n) m h bs bt lt ls = (r, (low-≼ lo s r (bs .0) sr, high-≼ hi t r (bt .1) rt), e)
   where
     r : Fraction
     r = record { num = negℤ (p .num *ℤ pos m); den = p .den * suc n; positive = mul-pos (p .positive) (omega arith) }
+
     sr : s ≼ r
     sr =
         let l = ring3 (s .num) (pos (suc n)) (pos (p .den)) (λ C N Z. (C ⊗ ⊖ N) ⊗ Z ≐ ⊖ (C ⊗ (Z ⊗ N))) refl in
         let k = ring3 (p .num) (pos (s .den)) (pos m) (λ Y D M. ⊖ (Y ⊗ (D ⊗ M)) ≐ ⊖ (Y ⊗ M) ⊗ D) refl in
         omega (arith, linear)
+
     rt : r ≼ t
     rt =
         let l = ring3 (t .num) (pos (suc n)) (pos (p .den)) (λ C N Z. (C ⊗ ⊖ N) ⊗ Z ≐ ⊖ (C ⊗ (Z ⊗ N))) refl in
         let k = ring3 (p .num) (pos (t .den)) (pos m) (λ Y D M. ⊖ (Y ⊗ (D ⊗ M)) ≐ ⊖ (Y ⊗ M) ⊗ D) refl in
         omega (arith, linear)
+
     e : p ≃ times r (record { num = negsuc n; den = m; positive = h })
     e = ring4 (p .num) (pos (p .den)) (pos (suc n)) (pos m) (λ Y Z N M. Y ⊗ ((Z ⊗ N) ⊗ M) ≐ (⊖ (Y ⊗ M) ⊗ ⊖ N) ⊗ Z) refl
 
@@ -171,15 +182,15 @@ module _ (lo hi : ℤ) (δ f f′ s g g′ t : Fraction) (bs : Between lo hi s) 
   pub max-slope : (r : Fraction) × Between lo hi r × (minus (larger f g) (larger f′ g′) ≃ times r δ)
   max-slope = larger-by (λ z. (r : Fraction) × Between lo hi r × (minus z (larger f′ g′) ≃ times r δ)) f g
       (λ h. larger-by (λ z. (r : Fraction) × Between lo hi r × (minus f z ≃ times r δ)) f′ g′
-          (λ _. (s, bs, p))
-          (λ k. mean lo hi s t (minus f g′) δ bs bt
-              (≼-≃ (minus g g′) (times t δ) (minus f g′) (minus f g′) q refl (minus-≼ g f g′ h))
-              (≼-≃ (minus f g′) (minus f g′) (minus f f′) (times s δ) refl p (minus-≽ f f′ g′ (≺-≼ f′ g′ k)))))
+      (λ _. (s, bs, p))
+      (λ k. mean lo hi s t (minus f g′) δ bs bt
+      (≼-≃ (minus g g′) (times t δ) (minus f g′) (minus f g′) q refl (minus-≼ g f g′ h))
+      (≼-≃ (minus f g′) (minus f g′) (minus f f′) (times s δ) refl p (minus-≽ f f′ g′ (≺-≼ f′ g′ k)))))
       (λ h. larger-by (λ z. (r : Fraction) × Between lo hi r × (minus g z ≃ times r δ)) f′ g′
-          (λ k. mean lo hi t s (minus g f′) δ bt bs
-              (≼-≃ (minus f f′) (times s δ) (minus g f′) (minus g f′) p refl (minus-≼ f g f′ (≺-≼ f g h)))
-              (≼-≃ (minus g f′) (minus g f′) (minus g g′) (times t δ) refl q (minus-≽ g g′ f′ k)))
-          (λ _. (t, bt, q)))
+      (λ k. mean lo hi t s (minus g f′) δ bt bs
+      (≼-≃ (minus f f′) (times s δ) (minus g f′) (minus g f′) p refl (minus-≼ f g f′ (≺-≼ f g h)))
+      (≼-≃ (minus g f′) (minus g f′) (minus g g′) (times t δ) refl q (minus-≽ g g′ f′ k)))
+      (λ _. (t, bt, q)))
 
 -- |f| is the larger of f and −f
 pub absolute-larger : (f : Fraction) → larger f (negated f) ≃ absolute f
@@ -189,6 +200,7 @@ absolute-larger f = absolute-by (λ z. larger f (negated f) ≃ z) f
   where
     up : pos 0 ≤ℤ f .num → f ≺ negated f → ⊥
     up h k = let d = den-pos f in let m = product-nonneg (f .num) (pos (f .den)) h (omega (arith, linear)) in omega (arith, linear, neg-*ℤ (f .num) (pos (f .den)))
+
     down : f .num <ℤ pos 0 → negated f ≼ f → ⊥
     down h k = let d = den-pos f in let m = product-pos (negℤ (f .num)) (pos (f .den)) (omega (arith, linear)) d in omega (arith, linear, neg-*ℤ (f .num) (pos (f .den)))
 

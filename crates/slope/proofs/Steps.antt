@@ -81,8 +81,8 @@ module _ (δ f f′ : Fraction) (S : Enclosure) (p : Slopes δ S f f′) where
         let a = slope-of δ f f′ S p in
         let b = slope-of δ g g′ T q in
         has-slope δ (times f g) (times f′ g′) (add (mul V T) (mul S U)) (both plus (both times (some f) (b .0)) (both times (a .0) (some g′)))
-            (add-holds (mul V T) (mul S U) (both times (some f) (b .0)) (both times (a .0) (some g′)) (mul-holds V T (some f) (b .0) hV (b .1)) (mul-holds S U (a .0) (some g′) (a .1) hU))
-            (fit (a .0) (b .0) (a .2) (b .2))
+        (add-holds (mul V T) (mul S U) (both times (some f) (b .0)) (both times (a .0) (some g′)) (mul-holds V T (some f) (b .0) hV (b .1)) (mul-holds S U (a .0) (some g′) (a .1) hU))
+        (fit (a .0) (b .0) (a .2) (b .2))
       where
         fit : (v w : Value) → Fits δ f f′ v → Fits δ g g′ w → Fits δ (times f g) (times f′ g′) (both plus (both times (some f) w) (both times v (some g′)))
         fit none none k l = tt
@@ -96,11 +96,12 @@ module _ (δ f f′ : Fraction) (S : Enclosure) (p : Slopes δ S f f′) where
         let a = slope-of δ f f′ S p in
         let b = slope-of δ g g′ T q in
         fit (a .0) (b .0) (a .2) (b .2)
-            (div-holds (sub S (mul U T)) V (both minus (a .0) (both times (some z′) (b .0))) (some g)
-                (sub-holds S (mul U T) (a .0) (both times (some z′) (b .0)) (a .1) (mul-holds U T (some z′) (b .0) hU (b .1))) hV)
+        (div-holds (sub S (mul U T)) V (both minus (a .0) (both times (some z′) (b .0))) (some g)
+        (sub-holds S (mul U T) (a .0) (both times (some z′) (b .0)) (a .1) (mul-holds U T (some z′) (b .0) hU (b .1))) hV)
       where
         E : Enclosure
         E = div (sub S (mul U T)) V
+
         fit : (v w : Value) → Fits δ f f′ v → Fits δ g g′ w → Holds E (quotient (both minus v (both times (some z′) w)) (some g)) → Slopes δ E z z′
         fit none w k l h = has-slope δ z z′ E none h tt
         fit (some s) none k l h = has-slope δ z z′ E none h tt
@@ -117,10 +118,10 @@ hull-has δ f f′ g g′ (Bounds a b) (Bounds d e) p q =
     let lo = minZ a d in
     let hi = maxZ b e in
     kept-has δ (larger f g) (larger f′ g′) lo hi
-        (max-slope lo hi δ f f′ (p .0) g g′ (q .0)
-            (widen a b lo hi (p .0) (omega (arith, ints, clamps)) (omega (arith, ints, clamps)) (p .1))
-            (widen d e lo hi (q .0) (omega (arith, ints, clamps)) (omega (arith, ints, clamps)) (q .1))
-            (p .2) (q .2))
+    (max-slope lo hi δ f f′ (p .0) g g′ (q .0)
+    (widen a b lo hi (p .0) (omega (arith, ints, clamps)) (omega (arith, ints, clamps)) (p .1))
+    (widen d e lo hi (q .0) (omega (arith, ints, clamps)) (omega (arith, ints, clamps)) (q .1))
+    (p .2) (q .2))
 
 at-most : (a b : ℤ) → leZ a b ≡ true → a ≤ℤ b
 at-most a b e = omega (arith, ints)
@@ -134,9 +135,9 @@ bent-has δ f f′ NoBounds S h h′ p = tt
 bent-has δ f f′ (Bounds a b) S h h′ p = cond-if (λ E. Slopes δ E (absolute f) (absolute f′)) (leZ (pos 0) a) S (cond (leZ b (pos 0)) (neg S) (hull S (neg S)))
     (λ e. has-≃ δ f (absolute f) f′ (absolute f′) S (absolute-above f (low-nonneg f a (at-most (pos 0) a e) (h .0))) (absolute-above f′ (low-nonneg f′ a (at-most (pos 0) a e) (h′ .0))) p)
     (λ _. cond-if (λ E. Slopes δ E (absolute f) (absolute f′)) (leZ b (pos 0)) (neg S) (hull S (neg S))
-        (λ e. has-≃ δ (negated f) (absolute f) (negated f′) (absolute f′) (neg S) (absolute-below f (high-nonpos f b (at-most b (pos 0) e) (h .1))) (absolute-below f′ (high-nonpos f′ b (at-most b (pos 0) e) (h′ .1))) (neg-has δ f f′ S p))
-        (λ _. has-≃ δ (larger f (negated f)) (absolute f) (larger f′ (negated f′)) (absolute f′) (hull S (neg S)) (absolute-larger f) (absolute-larger f′)
-            (hull-has δ f f′ (negated f) (negated f′) S (neg S) p (neg-has δ f f′ S p))))
+    (λ e. has-≃ δ (negated f) (absolute f) (negated f′) (absolute f′) (neg S) (absolute-below f (high-nonpos f b (at-most b (pos 0) e) (h .1))) (absolute-below f′ (high-nonpos f′ b (at-most b (pos 0) e) (h′ .1))) (neg-has δ f f′ S p))
+    (λ _. has-≃ δ (larger f (negated f)) (absolute f) (larger f′ (negated f′)) (absolute f′) (hull S (neg S)) (absolute-larger f) (absolute-larger f′)
+    (hull-has δ f f′ (negated f) (negated f′) S (neg S) p (neg-has δ f f′ S p))))
 
 -- ---- a pair above another
 -- 1000·g ≤ e < a ≤ 1000·f
@@ -152,10 +153,10 @@ larger-has δ f f′ g g′ NoBounds W S T h h′ k k′ p q = tt
 larger-has δ f f′ g g′ (Bounds a b) NoBounds S T h h′ k k′ p q = tt
 larger-has δ f f′ g g′ (Bounds a b) (Bounds d e) S T h h′ k k′ p q = cond-if (λ E. Slopes δ E (larger f g) (larger f′ g′)) (ltZ e a) S (cond (ltZ b d) T (hull S T))
     (λ l. larger-by (λ z. Slopes δ S z (larger f′ g′)) f g
-        (λ _. larger-by (λ z. Slopes δ S f z) f′ g′ (λ _. p) (λ m. absurd (apart a e f′ g′ (below e a l) (h′ .0) (k′ .1) (omega (arith, linear)))))
-        (λ m. absurd (apart a e f g (below e a l) (h .0) (k .1) (omega (arith, linear)))))
+    (λ _. larger-by (λ z. Slopes δ S f z) f′ g′ (λ _. p) (λ m. absurd (apart a e f′ g′ (below e a l) (h′ .0) (k′ .1) (omega (arith, linear)))))
+    (λ m. absurd (apart a e f g (below e a l) (h .0) (k .1) (omega (arith, linear)))))
     (λ _. cond-if (λ E. Slopes δ E (larger f g) (larger f′ g′)) (ltZ b d) T (hull S T)
-        (λ l. larger-by (λ z. Slopes δ T z (larger f′ g′)) f g
-            (λ m. absurd (apart d b g f (below b d l) (k .0) (h .1) m))
-            (λ _. larger-by (λ z. Slopes δ T g z) f′ g′ (λ m. absurd (apart d b g′ f′ (below b d l) (k′ .0) (h′ .1) m)) (λ _. q)))
-        (λ _. hull-has δ f f′ g g′ S T p q))
+    (λ l. larger-by (λ z. Slopes δ T z (larger f′ g′)) f g
+    (λ m. absurd (apart d b g f (below b d l) (k .0) (h .1) m))
+    (λ _. larger-by (λ z. Slopes δ T g z) f′ g′ (λ m. absurd (apart d b g′ f′ (below b d l) (k′ .0) (h′ .1) m)) (λ _. q)))
+    (λ _. hull-has δ f f′ g g′ S T p q))

@@ -1,7 +1,6 @@
 // Slopes of lines that turn: the larger of two, the absolute value, the branch.
 ghost use mathlib.Core.Path.{_≡_};
 ghost use Rattle.slope.specs.Rules.{largerSlope, bentSlope, chosenSlope};
-
 use interval::enclosures::Branch;
 use interval::enclosures::Enclosure;
 use interval::enclosures::Enclosure::Bounds;

@@ -47,19 +47,20 @@ abbrev Over : Slope → Enclosure → Enclosure → Type 0
 Over e p q = e .v ≡ p
 
 over-same : (c : Cell) (row : RowOf) → Keeps Over (over slopeRules c row) divSlope (over pairRules c row) div (over pairRules c row) div
-over-same c row = record
-  { blank = refl
-  ; x = refl
-  ; constant = λ v. refl
-  ; reading = λ n. refl
-  ; neg = λ e p q h. ap neg h
-  ; abs = λ e p q h. ap abs h
-  ; add = λ e e′ p p′ q q′ h k. λ i. add (h i) (k i)
-  ; sub = λ e e′ p p′ q q′ h k. λ i. sub (h i) (k i)
-  ; mul = λ e e′ p p′ q q′ h k. λ i. mul (h i) (k i)
-  ; max = λ e e′ p p′ q q′ h k. λ i. max (h i) (k i)
-  ; div = λ e e′ p p′ q q′ h k. λ i. div (h i) (k i)
-  ; chi = λ e e′ e″ p p′ p″ q q′ q″ h k m. λ i. chi (h i) (k i) (m i) }
+over-same c row = record {
+  blank = refl;
+  x = refl;
+  constant = λ v. refl;
+  reading = λ n. refl;
+  neg = λ e p q h. ap neg h;
+  abs = λ e p q h. ap abs h;
+  add = λ e e′ p p′ q q′ h k. λ i. add (h i) (k i);
+  sub = λ e e′ p p′ q q′ h k. λ i. sub (h i) (k i);
+  mul = λ e e′ p p′ q q′ h k. λ i. mul (h i) (k i);
+  max = λ e e′ p p′ q q′ h k. λ i. max (h i) (k i);
+  div = λ e e′ p p′ q q′ h k. λ i. div (h i) (k i);
+  chi = λ e e′ e″ p p′ p″ q q′ q″ h k m. λ i. chi (h i) (k i) (m i);
+}
 
 pub over-is-plain : (c : Cell) (row : RowOf) (ls : List Line) → lastSlope c row ls .v ≡ enclosureOf c row ls
 over-is-plain c row ls = keeps-at Over (over slopeRules c row) divSlope (over pairRules c row) div (over pairRules c row) div (over-same c row) ls (length ls - 1)
@@ -88,13 +89,13 @@ never-empty c row ls there b =
     let o = ascends c there in
     let i : InCell c p = (omega (arith, ints), omega (arith, ints)) in
     answer-bounds c p i (lastSlope c row ls) (valueOf t p ls) (valueOf t (whole (middle c)) ls) (last-vouches c row ls t p there (some-allowed row) i)
-        (over-range c row ls) (subst HasBounds (sym (over-is-plain c row ls)) b)
+    (over-range c row ls) (subst HasBounds (sym (over-is-plain c row ls)) b)
 
 pub slopes-lawful : Lawful slopeCount slopeValue slopeAnswer
-slopes-lawful = record
-  { few = λ s. table-few (s .table)
-  ; holds = λ s k c row t x h i. cond-if (λ e. Holds e (slopeValue s k t x)) (exists c) (slopeAnswerBy (listAt (s .table) k) c row) NoBounds (λ e. list-holds (listAt (s .table) k) c row t x e h i) (λ _. tt)
-  ; range = λ s k c row. cond-if InRange (exists c) (slopeAnswerBy (listAt (s .table) k) c row) NoBounds (λ _. list-in-range (listAt (s .table) k) c row) (λ _. tt)
-  ; no-curve = λ s k c row h. cond-if (λ e. e ≡ NoBounds) (exists c) (slopeAnswerBy (listAt (s .table) k) c row) NoBounds (λ _. ap (λ (l : Option CodeList). slopeAnswerBy l c row) (no-list (s .table) k h)) (λ _. refl)
-  ; no-cell = λ s k c row h. ap (λ (b : Bool). cond b (slopeAnswerBy (listAt (s .table) k) c row) NoBounds) h
-  }
+slopes-lawful = record {
+  few = λ s. table-few (s .table);
+  holds = λ s k c row t x h i. cond-if (λ e. Holds e (slopeValue s k t x)) (exists c) (slopeAnswerBy (listAt (s .table) k) c row) NoBounds (λ e. list-holds (listAt (s .table) k) c row t x e h i) (λ _. tt);
+  range = λ s k c row. cond-if InRange (exists c) (slopeAnswerBy (listAt (s .table) k) c row) NoBounds (λ _. list-in-range (listAt (s .table) k) c row) (λ _. tt);
+  no-curve = λ s k c row h. cond-if (λ e. e ≡ NoBounds) (exists c) (slopeAnswerBy (listAt (s .table) k) c row) NoBounds (λ _. ap (λ (l : Option CodeList). slopeAnswerBy l c row) (no-list (s .table) k h)) (λ _. refl);
+  no-cell = λ s k c row h. ap (λ (b : Bool). cond b (slopeAnswerBy (listAt (s .table) k) c row) NoBounds) h;
+}

@@ -14,9 +14,19 @@ abbrev pub blankSlope : Slope
 blankSlope = record { v = NoBounds; u = NoBounds; s = NoBounds }
 
 abbrev pub slopeRules : Rules Slope
-slopeRules = record
-  { blank = blankSlope; x = xSlope; constant = constantSlope; reading = readingSlope
-  ; neg = negSlope; abs = absSlope; add = addSlope; sub = subSlope; mul = mulSlope; max = maxSlope; chi = chiSlope }
+slopeRules = record {
+  blank = blankSlope;
+  x = xSlope;
+  constant = constantSlope;
+  reading = readingSlope;
+  neg = negSlope;
+  abs = absSlope;
+  add = addSlope;
+  sub = subSlope;
+  mul = mulSlope;
+  max = maxSlope;
+  chi = chiSlope;
+}
 
 -- v holds the value at the point and at the middle, u that at the middle, and some slope in s leads from the middle to the point
 abbrev pub slopeVouches : Vouching Slope
