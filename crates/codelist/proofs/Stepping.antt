@@ -8,16 +8,12 @@ use lib.Dec.{ltb}
 use lib.ListN.{length, take, getD, set}
 use lib.Seq.{take-all}
 use borrow.Author.Tests.{ltb-true}
+use Rattle.std.proofs.shelf.Tests.{and-parts}
 use Rattle.std.proofs.shelf.Lists.{take-more, take-more-set, getD-take}
 use Rattle.codelist.specs.declared.lines.Line.{Line}
 use Rattle.codelist.specs.declared.lines.Line.the-variants.{X, C, R, Neg, Abs, Add, Sub, Mul, Div, Max, Chi}
 use Rattle.codelist.specs.Lines.{earlier}
 use Rattle.codelist.specs.Evaluate.{Operations, entry, onward, entries}
-
-both-true : (a b : Bool) → (a && b) ≡ true → (a ≡ true) × (b ≡ true)
-both-true true true e = (refl, refl)
-both-true true false e = (refl, e)
-both-true false b e = (e, absurd (mathlib.Core.Bool.true≢false (sym e)))
 
 module _ {E : Type 0} (o : Operations E) (d : E → E → E) where
   onward-append : (es : List E) (ks ls : List Line) → onward o d es (ks ++ ls) ≡ onward o d (onward o d es ks) ls
@@ -31,14 +27,14 @@ module _ {E : Type 0} (o : Operations E) (d : E → E → E) where
   entry-front es n (R i) h = refl
   entry-front es n (Neg i) h = ap (o .neg) (getD-take n es i (o .blank) (ltb-true i n h))
   entry-front es n (Abs i) h = ap (o .abs) (getD-take n es i (o .blank) (ltb-true i n h))
-  entry-front es n (Add i j) h = let b = both-true (ltb i n) (ltb j n) h in λ k. o .add (getD-take n es i (o .blank) (ltb-true i n (b .0)) k) (getD-take n es j (o .blank) (ltb-true j n (b .1)) k)
-  entry-front es n (Sub i j) h = let b = both-true (ltb i n) (ltb j n) h in λ k. o .sub (getD-take n es i (o .blank) (ltb-true i n (b .0)) k) (getD-take n es j (o .blank) (ltb-true j n (b .1)) k)
-  entry-front es n (Mul i j) h = let b = both-true (ltb i n) (ltb j n) h in λ k. o .mul (getD-take n es i (o .blank) (ltb-true i n (b .0)) k) (getD-take n es j (o .blank) (ltb-true j n (b .1)) k)
-  entry-front es n (Div i j) h = let b = both-true (ltb i n) (ltb j n) h in λ k. d (getD-take n es i (o .blank) (ltb-true i n (b .0)) k) (getD-take n es j (o .blank) (ltb-true j n (b .1)) k)
-  entry-front es n (Max i j) h = let b = both-true (ltb i n) (ltb j n) h in λ k. o .max (getD-take n es i (o .blank) (ltb-true i n (b .0)) k) (getD-take n es j (o .blank) (ltb-true j n (b .1)) k)
+  entry-front es n (Add i j) h = let b = and-parts (ltb i n) (ltb j n) h in λ k. o .add (getD-take n es i (o .blank) (ltb-true i n (b .0)) k) (getD-take n es j (o .blank) (ltb-true j n (b .1)) k)
+  entry-front es n (Sub i j) h = let b = and-parts (ltb i n) (ltb j n) h in λ k. o .sub (getD-take n es i (o .blank) (ltb-true i n (b .0)) k) (getD-take n es j (o .blank) (ltb-true j n (b .1)) k)
+  entry-front es n (Mul i j) h = let b = and-parts (ltb i n) (ltb j n) h in λ k. o .mul (getD-take n es i (o .blank) (ltb-true i n (b .0)) k) (getD-take n es j (o .blank) (ltb-true j n (b .1)) k)
+  entry-front es n (Div i j) h = let b = and-parts (ltb i n) (ltb j n) h in λ k. d (getD-take n es i (o .blank) (ltb-true i n (b .0)) k) (getD-take n es j (o .blank) (ltb-true j n (b .1)) k)
+  entry-front es n (Max i j) h = let b = and-parts (ltb i n) (ltb j n) h in λ k. o .max (getD-take n es i (o .blank) (ltb-true i n (b .0)) k) (getD-take n es j (o .blank) (ltb-true j n (b .1)) k)
   entry-front es n (Chi s q r) h =
-      let b = both-true (ltb s n) (ltb q n && ltb r n) h in
-      let b′ = both-true (ltb q n) (ltb r n) (b .1) in
+      let b = and-parts (ltb s n) (ltb q n && ltb r n) h in
+      let b′ = and-parts (ltb q n) (ltb r n) (b .1) in
       λ k. o .chi (getD-take n es s (o .blank) (ltb-true s n (b .0)) k) (getD-take n es q (o .blank) (ltb-true q n (b′ .0)) k) (getD-take n es r (o .blank) (ltb-true r n (b′ .1)) k)
 
   -- the table es after the line l of number n is filled in

@@ -8,6 +8,7 @@ use lib.Dec.{eqb}
 use lib.IntN.{ℤ, pos, negsuc, _+ℤ_, _-ℤ_, _*ℤ_, negℤ, *ℤ-comm, +ℤ-comm, +ℤ-assoc, negℤ-+ℤ, negℤ-negℤ}
 use borrow.Author.Differences.{ints}
 use borrow.Author.Tests.{eqb-true}
+use Rattle.std.proofs.shelf.Tests.{and-parts}
 use Rattle.exact.proofs.Integers.{+ℤ-*ℤ, *ℤ-+ℤ, *ℤ-assoc, *ℤ-left-comm, +ℤ-left-comm, neg-*ℤ, *ℤ-neg, products}
 
 -- ---- what the caller writes
@@ -174,18 +175,13 @@ poly-is (a ⊕ b) ρ = add-is (poly a) (poly b) ρ ∙ (λ i. poly-is a ρ i +�
 poly-is (a ⊗ b) ρ = mul-is (poly a) (poly b) ρ ∙ (λ i. poly-is a ρ i *ℤ poly-is b ρ i)
 poly-is (⊖ a) ρ = scale-is (negsuc 0) (poly a) ρ ∙ rw (poly-is a ρ) (omega (arith, ints))
 
-and-true : (a b : Bool) → a && b ≡ true → (a ≡ true) × (b ≡ true)
-and-true true true e = (refl, refl)
-and-true true false e = (refl, e)
-and-true false b e = (e, absurd (mathlib.Core.Bool.true≢false (sym e)))
-
 is-zero : (z : ℤ) → isZero z ≡ true → z ≡ pos 0
 is-zero (pos n) e = ap pos (eqb-true n 0 e)
 is-zero (negsuc n) e = absurd (mathlib.Core.Bool.true≢false (sym e))
 
 null-is : (p : P) (ρ : ℕ → ℤ) → null p ≡ true → value p ρ ≡ pos 0
 null-is (con z) ρ e = is-zero z e
-null-is (node c q) ρ e = let h = and-true (null c) (null q) e in rw (null-is c (next ρ) (h .0), null-is q ρ (h .1), zero-times)
+null-is (node c q) ρ e = let h = and-parts (null c) (null q) e in rw (null-is c (next ρ) (h .0), null-is q ρ (h .1), zero-times)
 
 -- the two sides are the same polynomial, so they are equal at all values
 pub ring : (xs : List ℤ) (a b : Ex) → null (poly (a ⊝ b)) ≡ true → meaning (at xs) a ≡ meaning (at xs) b

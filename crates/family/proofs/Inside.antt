@@ -8,6 +8,7 @@ use lib.Signed.{leZ, _≤ℤ_}
 use borrow.Author.Differences.{ints}
 use Rattle.std.specs.declared.option.Option.{Option}
 use Rattle.std.specs.declared.option.Option.the-variants.{Some, None}
+use Rattle.std.proofs.shelf.Tests.{and-parts}
 use Rattle.exact.specs.Fraction.{Fraction, whole, inUnits}
 use Rattle.exact.proofs.Ring.{Ex, lit, _⊗_, _≐_, ring2}
 use Rattle.exact.proofs.Rounding.{floor-is}
@@ -19,10 +20,7 @@ use Rattle.family.specs.Readings.{RowOf, readingAt, readingPair, Allows, Allow
 use Rattle.family.specs.Cells.{span, exists, middle, Within, InCell}
 
 all-true : (a b c : Bool) → (a && (b && c)) ≡ true → (a ≡ true) × (b ≡ true) × (c ≡ true)
-all-true true true true e = (refl, refl, refl)
-all-true true true false e = (refl, refl, e)
-all-true true false c e = absurd (mathlib.Core.Bool.true≢false (mathlib.Core.Path.sym e))
-all-true false b c e = absurd (mathlib.Core.Bool.true≢false (mathlib.Core.Path.sym e))
+all-true a b c e = let h = and-parts a (b && c) e in let k = and-parts b c (h .1) in (h .0, k .0, k .1)
 
 pub ascends : (c : Cell) → exists c ≡ true → (c .lo) ≤ℤ (c .hi)
 ascends c e = let o = all-true (leZ (negℤ span) (c .lo)) (leZ (c .lo) (c .hi)) (leZ (c .hi) span) e in let p = o .1 in omega (arith, ints)

@@ -10,6 +10,7 @@ use lib.Signed.{ltZ, leZ, _≤ℤ_, _<ℤ_, clashℤ}
 use borrow.Author.Differences.{ints}
 use Rattle.std.specs.Numbers.{minZ, maxZ}
 use Rattle.std.proofs.shelf.Signed.{clamps}
+use Rattle.std.proofs.shelf.Tests.{and-parts}
 use Rattle.exact.proofs.Integers.{linear, by-order}
 use Rattle.exact.proofs.Ring.{zero-by}
 use Rattle.exact.proofs.Fractions.{≺-≼}
@@ -26,16 +27,11 @@ use Rattle.interval.proofs.Products.{between-plus, between-times}
 use Rattle.interval.proofs.Quotients.{quotient-pos, quotient-neg}
 
 -- ---- the limit
-both-true : (a b : Bool) → a && b ≡ true → (a ≡ true) × (b ≡ true)
-both-true true true e = (refl, refl)
-both-true true false e = (refl, e)
-both-true false b e = (e, absurd (mathlib.Core.Bool.true≢false (sym e)))
-
 pub kept-holds : (lo hi : ℤ) (v : Value) → Holds (Bounds lo hi) v → Holds (kept lo hi) v
 kept-holds lo hi v h = cond-if (λ E. Holds E v) (within lo && within hi) (Bounds lo hi) NoBounds (λ _. h) (λ _. tt)
 
 pub kept-range : (lo hi : ℤ) → InRange (kept lo hi)
-kept-range lo hi = cond-if InRange (within lo && within hi) (Bounds lo hi) NoBounds (λ e. both-true (within lo) (within hi) e) (λ _. tt)
+kept-range lo hi = cond-if InRange (within lo && within hi) (Bounds lo hi) NoBounds (λ e. and-parts (within lo) (within hi) e) (λ _. tt)
 
 -- ---- only bounds, and a fraction, are left to show
 holds1 : (f : ℤ → ℤ → Enclosure) (g : Value → Value) → ((a b : ℤ) (u : Fraction) → Between a b u → Holds (f a b) (g (some u))) → (p : Enclosure) → Law1 g p (on1 f p)
