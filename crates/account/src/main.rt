@@ -2,11 +2,11 @@
 // a flame margin which cells of a window are provably away from zero, and why. All numbers are counts (thousandths).
 ghost use mathlib.Core.Path.{_≡_};
 ghost use Rattle.account.specs.Cells.{halved, Narrower};
+use codelist::curves::Lists;
 use codelist::lines::Line;
 use codelist::lists::CodeList;
 use codelist::places::Place;
 use codelist::plain::ListFamily;
-use codelist::plain::declared_lists::Lists;
 use codelist::running::run;
 use codelist::tables::ListTable;
 use family::cells::Cell;

@@ -15,7 +15,7 @@ use Rattle.family.specs.Cells.{exists}
 use Rattle.family.specs.Readings.{Temperatures, RowOf}
 use Rattle.codelist.specs.declared.lines.Line.{Line}
 use Rattle.codelist.specs.declared.lists.CodeList.{CodeList}
-use Rattle.codelist.specs.declared.plain.declared_lists.Lists.{Lists}
+use Rattle.codelist.specs.declared.curves.Lists.{Lists}
 use Rattle.codelist.specs.Lists.{linesOf}
 use Rattle.codelist.specs.Tables.{listAt}
 use Rattle.codelist.specs.Evaluate.{entries}

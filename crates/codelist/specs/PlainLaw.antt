@@ -25,7 +25,7 @@ use Rattle.family.specs.Meaning.{Lawful}
 use Rattle.family.proofs.Inside.{reading-range}
 use Rattle.codelist.specs.declared.lines.Line.{Line}
 use Rattle.codelist.specs.declared.lists.CodeList.{CodeList}
-use Rattle.codelist.specs.declared.plain.declared_lists.Lists.{Lists}
+use Rattle.codelist.specs.declared.curves.Lists.{Lists}
 use Rattle.codelist.specs.declared.tables.ListTable.{ListTable}
 use Rattle.codelist.specs.Lists.{linesOf}
 use Rattle.codelist.specs.Tables.{listsOf, listAt}

@@ -1,4 +1,5 @@
 // Code lists: a curve as lines of arithmetic, its exact value, and running it over any kind of value.
+pub mod curves;
 pub mod intervals;
 pub mod kinds;
 pub mod lines;
@@ -10,13 +11,13 @@ pub mod tables;
 
 #[cfg(test)]
 mod tests {
+    use crate::curves::Lists;
     use crate::lines::Line;
     use crate::lines::LineRefusal;
     use crate::lines::LineRefusalDebug;
     use crate::lines::LineRefusalPartialEq;
     use crate::lists::CodeList;
     use crate::plain::ListFamily;
-    use crate::plain::declared_lists::Lists;
     use crate::tables::ListTable;
     use family::cells::Cell;
     use family::families::Family;

@@ -1,6 +1,7 @@
 // The family of plain lists: the enclosure of a curve is the entry of its last line, run over the interval kind.
 ghost use Rattle.codelist.specs.Plain.{plainCount, plainValue, plainAnswer};
 ghost use Rattle.codelist.specs.PlainLaw.{plain-lawful};
+use crate::curves::Lists;
 use crate::intervals::Intervals;
 use crate::intervals::kind::IntervalKind;
 use crate::places::Place;
@@ -9,10 +10,6 @@ use family::cells::Cell;
 use family::families::Family;
 use family::rows::Row;
 use interval::enclosures::Enclosure;
-
-pub mod declared_lists;
-
-use declared_lists::Lists;
 
 pub impl Family for Lists as ListFamily {
     ghost count = { plainCount };

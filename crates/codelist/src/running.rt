@@ -1,7 +1,7 @@
 // Running a list over any kind of value.
 ghost use mathlib.Core.Path.{_≡_};
 ghost use mathlib.Core.Bool.{true};
-ghost use lib.ListN.{length, take};
+ghost use lib.ListN.{length, take, drop};
 ghost use Rattle.codelist.specs.Lines.{earlier};
 ghost use Rattle.codelist.specs.Lists.{linesOf};
 ghost use Rattle.codelist.specs.Evaluate.{entry, entries};
@@ -43,6 +43,7 @@ fn fill_line<K: Kind>(kind: &mut K, at: Place, line: Line, cell: Cell, row: &Row
 // Runs a list: the entry of each line into its place. What stands in later places stays.
 pub fn run<K: Kind>(kind: &mut K, list: &CodeList, cell: Cell, row: &Row)
     ensures entries { λ _. ⌜ take (length (linesOf (now (list .entry)))) (K·Kind .table (now (kind .exit))) ≡ entries (over (K·Kind .rules) cell (now (row .entry))) (K·Kind .divided) (linesOf (now (list .entry))) ⌝ }
+    ensures rest { λ _. ⌜ drop (length (linesOf (now (list .entry)))) (K·Kind .table (now (kind .exit))) ≡ drop (length (linesOf (now (list .entry)))) (K·Kind .table (now (kind .entry))) ⌝ }
     ensures vouched { λ _. ⌜ Vouched (K·Kind .vouches) (K·Kind .rules .blank) (K·Kind .table (now (kind .exit))) (linesOf (now (list .entry))) cell (now (row .entry)) ⌝ }
 {
     let lines = list.lines();
