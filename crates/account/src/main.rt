@@ -15,6 +15,7 @@ use family::readings::Reading;
 use family::rows::Row;
 use interval::enclosures::Enclosure;
 use interval::enclosures::Sign;
+use slope::entries::Slope;
 use slopes::asking::SlopeFamily;
 use slopes::lists::SlopeLists;
 use slopes::tables::Slopes;
@@ -129,22 +130,27 @@ fn verdict(sign: Sign, wide: bool) -> &'static str {
     }
 }
 
-// Each line with its entry over the cell: V over the cell, U at its middle, the slope S.
+// An entry: V over the cell, U at its middle, the slope S.
+fn entry_text(heap: Global, e: Slope) -> Result<String, AllocError> {
+    let v = pair_text(heap, e.v)?;
+    let u = pair_text(heap, e.u)?;
+    let s = pair_text(heap, e.s)?;
+    format!(heap, "V {v}, U {u}, S {s}")
+}
+
+// Each line with its entry over the cell.
 fn show_entries(rt: &LibcRuntime, list: &CodeList, cell: Cell, row: &Row) -> io::Result<()> {
     let mut kind = Slopes::new();
     run(&mut kind, list, cell, row);
     for (n, line) in list.lines().iter().enumerate() {
-        let e = kind.entry(Place::clamped(n));
         let text = line_text(rt.alloc(), *line)?;
-        let v = pair_text(rt.alloc(), e.v)?;
-        let u = pair_text(rt.alloc(), e.u)?;
-        let s = pair_text(rt.alloc(), e.s)?;
-        println!(rt, "  {n} {text}: V {v}, U {u}, S {s}")?;
+        let entry = entry_text(rt.alloc(), kind.entry(Place::clamped(n)))?;
+        println!(rt, "  {n} {text}: {entry}")?;
     }
     Ok(())
 }
 
-// The answers of both families over a cell.
+// The entry of a curve's last line over a cell, and the answers of both families.
 fn show_answers(
     rt: &LibcRuntime,
     table: ListTable,
@@ -152,12 +158,19 @@ fn show_answers(
     cell: Cell,
     row: &Row,
 ) -> io::Result<()> {
+    let Some(list) = table.get(k) else {
+        return Ok(());
+    };
+    let mut kind = Slopes::new();
+    run(&mut kind, list, cell, row);
+    let last = Place::clamped(list.lines().len().saturating_sub(1));
+    let entry = entry_text(rt.alloc(), kind.entry(last))?;
     let plain = pair_text(rt.alloc(), Lists { table }.enclosure(k, cell, row))?;
     let sloped = pair_text(rt.alloc(), SlopeLists { table }.enclosure(k, cell, row))?;
     let (lo, hi) = (cell.lo, cell.hi);
     println!(
         rt,
-        "  over {lo} to {hi}: by lists {plain}, by slopes {sloped}"
+        "  over {lo} to {hi}: {entry}: by lists {plain}, by slopes {sloped}"
     )
 }
 
@@ -179,8 +192,14 @@ fn show_cells(rt: &LibcRuntime, lists: &Lists, k: usize, cell: Cell, row: &Row) 
     show_cells(rt, lists, k, right, row)
 }
 
-fn show_curve(rt: &LibcRuntime, table: ListTable, k: usize, row: &Row) -> io::Result<()> {
-    let cell = Cell { lo: 1000, hi: 2000 };
+// The lines of a curve with their entries over a cell, then its answers.
+fn show_curve(
+    rt: &LibcRuntime,
+    table: ListTable,
+    k: usize,
+    cell: Cell,
+    row: &Row,
+) -> io::Result<()> {
     if let Some(list) = table.get(k) {
         show_entries(rt, list, cell, row)?;
     }
@@ -195,12 +214,15 @@ fn main(rt: LibcRuntime) -> io::Result<()> {
         }
     }
     let row = margin_readings();
+    let one_to_two = Cell { lo: 1000, hi: 2000 };
     println!(rt, "curve 0, x*x - 4")?;
-    show_curve(&rt, table, 0, &row)?;
+    show_curve(&rt, table, 0, one_to_two, &row)?;
     println!(rt, "curve 1, (x - 2)*(x + 2)")?;
-    show_curve(&rt, table, 1, &row)?;
+    show_curve(&rt, table, 1, one_to_two, &row)?;
     println!(rt, "curve 2, margin x - r, reading 0 in [30, 33]")?;
-    show_cells(&rt, &Lists { table }, 2, Cell { lo: 0, hi: 100 }, &row)?;
+    let window = Cell { lo: 0, hi: 100 };
+    show_curve(&rt, table, 2, window, &row)?;
+    show_cells(&rt, &Lists { table }, 2, window, &row)?;
     println!(rt, "curve 3, |x*x + 5x| + x + 1")?;
     for lo in [-10000, -6000, -5830, -1000, 0] {
         show_answers(&rt, table, 3, Cell { lo, hi: lo + 100 }, &row)?;
