@@ -1,7 +1,7 @@
 -- Ring identities of fractions, up to ≃, by the solver of the integers: a fraction is a numerator and a denominator, two variables.
-use Rattle.std.proofs.Common.{◌≡◌, true, List, [], ◌∷◌, ℤ, pos, refl}
-use Rattle.exact.proofs.Ring.{Ex, var, lit, ◌⊕◌, ◌⊗◌, ⊖◌, ◌≐◌, Same, Holds, solve}
-use Rattle.exact.specs.Fraction.{Fraction, ◌≃◌, plus, negated, times}
+use Rattle.std.proofs.Common.{[], ◌∷◌, pos}
+use Rattle.exact.proofs.Ring.{Ex, var, ◌⊕◌, ◌⊗◌, ⊖◌, ◌≐◌, Same, Holds, solve}
+use Rattle.exact.specs.Fraction.{Fraction}
 
 abbrev pub Fx : Type 0
 Fx = Ex × Ex

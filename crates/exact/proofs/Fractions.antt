@@ -1,10 +1,10 @@
 -- Laws of fractions: equality is an equivalence, every operation respects it, and the order is a linear one.
-use Rattle.std.proofs.Common.{◌≡◌, ℕ, zero, suc, ◌*◌, ◌<◌, ◌≤◌, Bool, true, false, cond, ℤ, pos, negsuc, ◌+ℤ◌, ◌-ℤ◌, ◌*ℤ◌, neg_ℤ, nat_abs, ◌≤ℤ◌, ◌<ℤ◌, sym, refl, ap, ◌∙◌, subst, arith}
+use Rattle.std.proofs.Common.{◌≡◌, Bool, true, false, cond, ℤ, pos, ◌+ℤ◌, ◌*ℤ◌, neg_ℤ, nat_abs, ◌≤ℤ◌, ◌<ℤ◌, sym, refl, ap, ◌∙◌, subst, arith}
 use lib.Signed.{lt_z, clash_ℤ}
 use Rattle.std.proofs.lemmas.Int.{by_lt_z}
 use borrow.Author.Differences.{ints}
 use Rattle.exact.proofs.Integers.{linear, product_pos, ≤ℤ-mul, ≤ℤ_cancel, ≡_cancel, by_order, nat_abs_mul}
-use Rattle.exact.proofs.Ring.{Ex, var, lit, ◌⊕◌, ◌⊗◌, ◌⊝◌, ⊖◌, ◌≐◌, ring2, ring3, ring4, ring6}
+use Rattle.exact.proofs.Ring.{◌⊕◌, ◌⊗◌, ⊖◌, ◌≐◌, ring2, ring3, ring4, ring6}
 use Rattle.exact.specs.Fraction.{Fraction, ◌≃◌, ◌≼◌, ◌≺◌, plus, negated, minus, times, absolute, less, larger}
 
 -- ---- over whole numbers: a/b and a'/b' are equal, and so are c/d and c'/d'

@@ -1,5 +1,5 @@
 -- Laws of the whole numbers beyond those of lib.IntN: a commutative ring, its order, and sizes of products.
-use Rattle.std.proofs.Common.{◌≡◌, ℕ, zero, suc, ◌+◌, ◌-◌, ◌*◌, ◌<◌, ◌≤◌, ℤ, pos, negsuc, ◌+ℤ◌, ◌-ℤ◌, ◌*ℤ◌, neg_ℤ, nat_abs, ◌≤ℤ◌, ◌<ℤ◌, sym, refl, ap, ◌∙◌, subst, mul-le-mul_right, mul_assoc, mul_comm, add-mul, mul-le-mul, mul-pos, mul-add, arith}
+use Rattle.std.proofs.Common.{◌≡◌, ℕ, ◌+◌, ◌*◌, ◌<◌, ◌≤◌, ℤ, pos, negsuc, ◌+ℤ◌, ◌-ℤ◌, ◌*ℤ◌, neg_ℤ, nat_abs, ◌≤ℤ◌, ◌<ℤ◌, sym, refl, ap, ◌∙◌, mul_assoc, add-mul, mul-le-mul, mul-pos, mul-add, arith}
 use lib.IntN.{*ℤ_comm, +ℤ_comm, +ℤ_assoc, neg_ℤ-+ℤ, neg_ℤ-neg_ℤ}
 use borrow.Author.Differences.{up, down, ints, same_in, sum_is_lem, product_is, neg_is, at_most_in, below_in, le_out, lt_out, same_out}
 use Rattle.std.proofs.lemmas.Int.{by_lt_z}

@@ -1,6 +1,5 @@
 -- Operations on values respect equality: the quotient of fractions, and each operation where a value may be lacking.
-use Rattle.std.proofs.Common.{◌≡◌, ℕ, zero, suc, ◌*◌, ◌<◌, ◌≤◌, Bool, true, false, cond, ℤ, pos, negsuc, ◌+ℤ◌, ◌-ℤ◌, ◌*ℤ◌, neg_ℤ, nat_abs, sym, refl, ap, ◌∙◌, subst, mul_comm, mul-pos, arith}
-use lib.IntN.{*ℤ_comm}
+use Rattle.std.proofs.Common.{◌≡◌, ℕ, zero, suc, ◌*◌, ◌<◌, Bool, true, false, cond, ℤ, pos, negsuc, ◌*ℤ◌, neg_ℤ, nat_abs, sym, refl, ap, ◌∙◌, subst, mul_comm, mul-pos, arith}
 use lib.Signed.{lt_z}
 use borrow.Author.Differences.{ints}
 use Rattle.exact.proofs.Integers.{neg-*ℤ}

@@ -1,9 +1,9 @@
 -- A ring solver by computation. A polynomial is `con z`, or `node c q`, which is c + x·q: x is the variable 0, which q has too, and c has the variables from 1 on, counted from 0.
-use Rattle.std.proofs.Common.{◌≡◌, ℕ, zero, suc, Bool, true, false, ◌&&◌, eqb, List, [], ◌∷◌, ℤ, pos, negsuc, ◌+ℤ◌, ◌-ℤ◌, ◌*ℤ◌, neg_ℤ, sym, refl, ap, ◌∙◌, subst, arith, eqb-true}
+use Rattle.std.proofs.Common.{◌≡◌, ℕ, zero, suc, Bool, true, false, ◌&&◌, eqb, List, [], ◌∷◌, ℤ, pos, negsuc, ◌+ℤ◌, ◌-ℤ◌, ◌*ℤ◌, neg_ℤ, sym, refl, ap, ◌∙◌, arith, eqb-true}
 use lib.IntN.{*ℤ_comm, +ℤ_comm, +ℤ_assoc, neg_ℤ-+ℤ, neg_ℤ-neg_ℤ}
 use borrow.Author.Differences.{ints}
 use Rattle.std.proofs.lemmas.Bool.{and_parts}
-use Rattle.exact.proofs.Integers.{+ℤ-*ℤ, *ℤ-+ℤ, *ℤ_assoc, *ℤ_left_comm, +ℤ_left_comm, neg-*ℤ, *ℤ-neg, products}
+use Rattle.exact.proofs.Integers.{products}
 
 -- ---- what the caller writes
 pub data Ex : Type 0 where

@@ -1,11 +1,9 @@
 -- What floor and ceiling mean by inequalities, and what division toward zero gives of them.
-use Rattle.std.proofs.Common.{◌≡◌, ℕ, zero, suc, ◌+◌, ◌*◌, ◌/◌, ◌<◌, ◌≤◌, Bool, true, false, cond, ℤ, pos, negsuc, ◌+ℤ◌, ◌-ℤ◌, ◌*ℤ◌, neg_ℤ, nat_abs, ◌≤ℤ◌, ◌<ℤ◌, sym, refl, ap, ◌∙◌, subst, mod-lt, suc-mul, add-mul, div-add-mod', div-le_self, arith}
-use native.Mathlib.Nat.{zero-div}
-use lib.Signed.{quot_z}
+use Rattle.std.proofs.Common.{ℕ, suc, ◌/◌, ◌<◌, ◌≤◌, ℤ, pos, negsuc, ◌+ℤ◌, ◌*ℤ◌, neg_ℤ, nat_abs, ◌≤ℤ◌, ◌<ℤ◌, refl, mod-lt, suc-mul, add-mul, div-add-mod', div-le_self, arith}
 use borrow.Author.Differences.{ints}
 use Rattle.exact.specs.Rounding.{floor_by, floor, ceiling, IsFloor, IsCeiling}
-use Rattle.exact.proofs.Integers.{linear, neg-*ℤ}
-use Rattle.exact.proofs.Ring.{Ex, lit, ◌⊕◌, ◌⊗◌, ◌⊝◌, ⊖◌, ◌≐◌, ring2}
+use Rattle.exact.proofs.Integers.{linear}
+use Rattle.exact.proofs.Ring.{lit, ◌⊕◌, ◌⊗◌, ⊖◌, ◌≐◌, ring2}
 
 -- ---- what they mean
 floor_by_lem : (z : ℤ) (k : ℕ) → 0 < k → ((floor_by z k *ℤ pos k) ≤ℤ z) × (z <ℤ ((floor_by z k +ℤ pos 1) *ℤ pos k))

@@ -1,5 +1,5 @@
 -- The quotient n/d of two whole numbers rounded down and up, for every d but 0, and what the 64-bit functions answer.
-use Rattle.std.specs.Prelude.{ℕ, zero, suc, ◌-◌, ◌/◌, ◌^◌, Bool, true, false, cond, ◌&&◌, ℤ, pos, negsuc, ◌+ℤ◌, ◌*ℤ◌, neg_ℤ, ◌≤ℤ◌, ◌<ℤ◌, Some, None, Option, int_le}
+use Rattle.std.specs.Prelude.{ℕ, zero, suc, ◌-◌, ◌/◌, ◌^◌, Bool, cond, ◌&&◌, ℤ, pos, negsuc, ◌+ℤ◌, ◌*ℤ◌, neg_ℤ, ◌≤ℤ◌, ◌<ℤ◌, Some, None, Option, int_le}
 
 -- by a whole number above 0: −(a + 1) over k, rounded down, is −(a/k + 1)
 abbrev pub floor_by : ℤ → ℕ → ℤ

@@ -1,4 +1,6 @@
 // Quotients of whole numbers, rounded down and up.
+#![tactic(auto)]
+
 ghost use Rattle.std.specs.Prelude.{◌≡◌};
 ghost use Rattle.exact.specs.Rounding.{floor_div, ceil_div, IsFloor, IsCeiling, IfSome};
 

@@ -1,4 +1,6 @@
 // Enclosures: what is known of a curve's value, as a pair of whole counts (thousandths), and arithmetic on them.
+#![tactic(auto)]
+
 pub mod enclosures;
 mod ends;
 pub mod rules;

@@ -1,4 +1,5 @@
 // Curves given as knot tables: a table less the true temperature of its reading.
+#![tactic(auto)]
 pub mod asking;
 pub mod curves;
 

@@ -14,7 +14,7 @@ returns c =
     let g' : SFits w64 cell.hi = omega (arith, ints) in
     let d : SFits w64 (cell.hi -ℤ cell.lo) = omega (arith, ints) in
     let m = c.middle-c.result in
-    let k : SFits w32 m = record { sfits = c.middle-c.type-inv } in
+    let k : SFits w32 m = record { sfits = c.middle-c.type_inv } in
     let e = c.middle-c.ensures in
     let w : le_z (cell.hi -ℤ cell.lo) (pos 10) ≡ false = simp to_z-of_z at c.if-cell-le-WIDTH.false in
     record { value = simp to_z-of_z (halves_are cell m w e); narrower = (simp to_z-of_z (left_narrower cell m w e), simp to_z-of_z (right_narrower cell m w e)) }

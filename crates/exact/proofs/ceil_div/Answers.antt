@@ -1,4 +1,4 @@
-use Rattle.std.proofs.Common.{◌≡◌, pos, negsuc, ◌<ℤ◌, arith}
+use Rattle.std.proofs.Common.{◌≡◌, pos, negsuc, arith}
 use borrow.Author.Differences.{ints}
 use Rattle.exact.proofs.Dividing.{no_overflow, ceiling_turned_up, ceiling_turned_down, ceiling_plain, ceiling_moved, ceiling_direct, ceiling_sum_fits}
 use Rattle.exact.proofs.ceil_div.Goals as goal
@@ -47,8 +47,8 @@ returns-else-n-lt0 c =
     let t = ceiling_direct n d f g z o (ceiling_plain n d (λ p q. omega (arith, ints)) (λ p q. omega (arith, ints)) z) in
     record { value = t.value; meaning = t.meaning }
 
-pub overflow-add-result-then-n-lt0-2 : goal.overflow-add-result-then-n-lt0-2
-overflow-add-result-then-n-lt0-2 c =
+pub overflow_add-result-then-n-lt0-2 : goal.overflow_add-result-then-n-lt0-2
+overflow_add-result-then-n-lt0-2 c =
     let n = c.args.n in
     let d = c.args.d in
     let z : d ≡ pos 0 → ⊥ = λ e. omega (arith, ints) in

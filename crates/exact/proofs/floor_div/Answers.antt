@@ -1,4 +1,4 @@
-use Rattle.std.proofs.Common.{◌≡◌, pos, negsuc, ◌<ℤ◌, arith}
+use Rattle.std.proofs.Common.{◌≡◌, pos, negsuc, arith}
 use borrow.Author.Differences.{ints}
 use Rattle.exact.proofs.Dividing.{no_overflow, floor_turned_up, floor_turned_down, floor_plain, floor_moved, floor_direct}
 use Rattle.exact.proofs.floor_div.Goals as goal

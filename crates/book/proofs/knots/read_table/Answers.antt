@@ -11,7 +11,7 @@ loop-n-preserved c =
     let i = c.loop-n.invariant in
     let rest = take (length c.args.body.now - 2) (drop 2 c.args.body.now) in
     let h : c.loop-n.n < length c.loop-n.knots = omega (arith, i.0) in
-    (length-set c.loop-n.knots c.loop-n.n c.knot-of.result ∙ i.0, knots_copied c.loop-n.knots c.loop-n.n rest c.knot-of.result h i.1 c.knot-of.ensures)
+    (length-set c.loop-n.knots c.loop-n.n c.knot_of.result ∙ i.0, knots_copied c.loop-n.knots c.loop-n.n rest c.knot_of.result h i.1 c.knot_of.ensures)
 
 pub returns : goal.returns
 returns c =

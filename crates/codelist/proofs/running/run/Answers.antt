@@ -9,8 +9,8 @@ use Rattle.codelist.proofs.Stepping.{next, finished}
 use Rattle.codelist.specs.RunLaw.{vouched_in}
 use Rattle.codelist.proofs.running.run.Goals as goal
 
-pub fill-line-requires : goal.fill-line-requires
-fill-line-requires g c = reads_earlier c.args.list.now c.lines-lines.result.now c.lines-lines.ensures c.loop-n.n c.loop-n-test.true c.clamped.result.n X c.clamped.ensures
+pub fill_line-requires : goal.fill_line-requires
+fill_line-requires g c = reads_earlier c.args.list.now c.lines-lines.result.now c.lines-lines.ensures c.loop-n.n c.loop-n-test.true c.clamped.result.n X c.clamped.ensures
 
 pub loop-n-preserved : goal.loop-n-preserved
 loop-n-preserved g c =
@@ -24,8 +24,8 @@ loop-n-preserved g c =
     let l = get_or ls n X in
     let o = over m.rules c.args.cell c.args.row.now in
     let room : n < length es = omega (arith, at, c.clamped.result.below, m.sized c.loop-n.kind) in
-    let filled = c.fill-line.ensures ∙ (λ i. set es (at i) (entry o m.divided l es)) in (
-      next o m.divided ls es (m.table c.fill-line.new.kind) n X l lt room refl (reads_earlier list ls c.lines-lines.ensures n lt n X (sym at ∙ c.clamped.ensures)) c.loop-n.invariant.0 filled,
+    let filled = c.fill_line.ensures ∙ (λ i. set es (at i) (entry o m.divided l es)) in (
+      next o m.divided ls es (m.table c.fill_line.new.kind) n X l lt room refl (reads_earlier list ls c.lines-lines.ensures n lt n X (sym at ∙ c.clamped.ensures)) c.loop-n.invariant.0 filled,
       ap (drop (length ls)) filled ∙ drop-set-lt (length ls) es n (entry o m.divided l es) lt ∙ c.loop-n.invariant.1,
     )
 

@@ -14,11 +14,11 @@ returns c =
     let ls = lines_of list in
     let es = table_of c.run.new.kind in
     let m = c.clamped.result.n in
-    let q = c.saturating-sub.result in
-    let at = place list c.lines.result.now c.lines.ensures q m c.saturating-sub.ensures c.clamped.ensures in
+    let q = c.saturating_sub.result in
+    let at = place list c.lines.result.now c.lines.ensures q m c.saturating_sub.ensures c.clamped.ensures in
     let here = c.entry.ensures ∙ ap (λ (k : ℕ). get_or es k false) at in
     record {
-      rule = c.entry.ensures ∙ last_entry list c.lines.result.now c.lines.ensures q m c.saturating-sub.ensures c.clamped.ensures es _ false c.run.ensures.entries;
+      rule = c.entry.ensures ∙ last_entry list c.lines.result.now c.lines.ensures q m c.saturating_sub.ensures c.clamped.ensures es _ false c.run.ensures.entries;
       law = λ t p there allowed inside. subst (λ (b : Bool). HasValue b (value_of t p ls)) (sym here)
-          (c.run.ensures.vouched t p there allowed inside _ (last_within list c.lines.result.now c.lines.ensures q m c.saturating-sub.ensures c.clamped.ensures)).0;
+          (c.run.ensures.vouched t p there allowed inside _ (last_within list c.lines.result.now c.lines.ensures q m c.saturating_sub.ensures c.clamped.ensures)).0;
     }

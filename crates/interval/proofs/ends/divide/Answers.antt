@@ -10,7 +10,7 @@ returns c =
     let fb = c.ranges.b in
     let fd = c.ranges.d in
     let fe = c.ranges.e in
-    let s = simp to_z-of_z at c.if-spans-zero.ensures in
-    let t = simp to_z-of_z at c.if-spans-zero-2.ensures in
-    let q = simp to_z-of_z at c.quotients-of.ensures in
+    let s = simp to_z-of_z at c.if-spans_zero.ensures in
+    let t = simp to_z-of_z at c.if-spans_zero-2.ensures in
+    let q = simp to_z-of_z at c.quotients_of.ensures in
     q ∙ (λ i. cond (s i || t i) NoBounds (quotients c.args.a c.args.b c.args.d c.args.e))

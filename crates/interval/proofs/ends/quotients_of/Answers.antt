@@ -13,18 +13,18 @@ returns c =
     let fe = c.ranges.e in
     let gd : SFits w64 c.args.d = omega (arith, ints) in
     let ge : SFits w64 c.args.e = omega (arith, ints) in
-    let k0 : SFits w64 c.down.result = record { sfits = c.down.type-inv } in
-    let k1 : SFits w64 c.down-2.result = record { sfits = c.down-2.type-inv } in
-    let k2 : SFits w64 c.down-3.result = record { sfits = c.down-3.type-inv } in
-    let k3 : SFits w64 c.down-4.result = record { sfits = c.down-4.type-inv } in
-    let k4 : SFits w64 c.up.result = record { sfits = c.up.type-inv } in
-    let k5 : SFits w64 c.up-2.result = record { sfits = c.up-2.type-inv } in
-    let k6 : SFits w64 c.up-3.result = record { sfits = c.up-3.type-inv } in
-    let k7 : SFits w64 c.up-4.result = record { sfits = c.up-4.type-inv } in
-    let k8 : SFits w64 c.least-of-lo.result = record { sfits = c.least-of-lo.type-inv } in
-    let k9 : SFits w64 c.greatest-of-hi.result = record { sfits = c.greatest-of-hi.type-inv } in
-    let k10 : SFits w64 c.times-m.result = record { sfits = c.times-m.type-inv } in
-    let k11 : SFits w64 c.times-n.result = record { sfits = c.times-n.type-inv } in
+    let k0 : SFits w64 c.down.result = record { sfits = c.down.type_inv } in
+    let k1 : SFits w64 c.down-2.result = record { sfits = c.down-2.type_inv } in
+    let k2 : SFits w64 c.down-3.result = record { sfits = c.down-3.type_inv } in
+    let k3 : SFits w64 c.down-4.result = record { sfits = c.down-4.type_inv } in
+    let k4 : SFits w64 c.up.result = record { sfits = c.up.type_inv } in
+    let k5 : SFits w64 c.up-2.result = record { sfits = c.up-2.type_inv } in
+    let k6 : SFits w64 c.up-3.result = record { sfits = c.up-3.type_inv } in
+    let k7 : SFits w64 c.up-4.result = record { sfits = c.up-4.type_inv } in
+    let k8 : SFits w64 c.least_of-lo.result = record { sfits = c.least_of-lo.type_inv } in
+    let k9 : SFits w64 c.greatest_of-hi.result = record { sfits = c.greatest_of-hi.type_inv } in
+    let k10 : SFits w64 c.times-m.result = record { sfits = c.times-m.type_inv } in
+    let k11 : SFits w64 c.times-n.result = record { sfits = c.times-n.type_inv } in
     let e0 = simp to_z-of_z at c.down.ensures in
     let e1 = simp to_z-of_z at c.down-2.ensures in
     let e2 = simp to_z-of_z at c.down-3.ensures in
@@ -33,8 +33,8 @@ returns c =
     let e5 = simp to_z-of_z at c.up-2.ensures in
     let e6 = simp to_z-of_z at c.up-3.ensures in
     let e7 = simp to_z-of_z at c.up-4.ensures in
-    let e8 = simp to_z-of_z at c.least-of-lo.ensures in
-    let e9 = simp to_z-of_z at c.greatest-of-hi.ensures in
+    let e8 = simp to_z-of_z at c.least_of-lo.ensures in
+    let e9 = simp to_z-of_z at c.greatest_of-hi.ensures in
     let m = simp to_z-of_z at c.times-m.ensures.value in
     let n = simp to_z-of_z at c.times-n.ensures.value in
     let k = simp to_z-of_z at c.keep.ensures in

@@ -7,7 +7,7 @@ pub returns : goal.returns
 returns c =
     let f = c.ranges.n in
     let g = c.ranges.d in
-    let k : SFits w64 c.unwrap-or.result = record { sfits = c.unwrap-or.type-inv } in
-    let e = simp to_z-of_z at c.ceil-div.ensures.value in
+    let k : SFits w64 c.unwrap_or.result = record { sfits = c.unwrap_or.type_inv } in
+    let e = simp to_z-of_z at c.ceil_div.ensures.value in
     let a = ceiling_answered c.args.n c.args.d c.requires.size c.requires.nonzero in
-    simp to_z-of_z (c.unwrap-or.ensures ∙ ap (λ o. unwrap_or o (pos 0)) e ∙ a)
+    simp to_z-of_z (c.unwrap_or.ensures ∙ ap (λ o. unwrap_or o (pos 0)) e ∙ a)

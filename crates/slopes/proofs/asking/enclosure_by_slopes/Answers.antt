@@ -13,6 +13,6 @@ pub returns : goal.returns
 returns c =
     let list = c.args.list.now in
     let cell = c.args.cell in
-    let last = c.entry.ensures ∙ last_entry list c.lines.result.now c.lines.ensures c.saturating-sub.result c.clamped-last.result.n c.saturating-sub.ensures c.clamped-last.ensures (table_of c.run.new.kind) _ blank_slope c.run.ensures.entries in
+    let last = c.entry.ensures ∙ last_entry list c.lines.result.now c.lines.ensures c.saturating_sub.result c.clamped-last.result.n c.saturating_sub.ensures c.clamped-last.ensures (table_of c.run.new.kind) _ blank_slope c.run.ensures.entries in
     let e = c.answer.ensures ∙ ap (λ (s : Slope). answer_of cell s) last in
     record { rule = e; bounded = λ there b. subst HasBounds (sym e) (never_empty cell c.args.row.now (lines_of list) there b) }

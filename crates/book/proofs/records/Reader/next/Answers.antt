@@ -22,8 +22,8 @@ returns-in-Err c =
 fits : (n : ℕ) → n ≤ 8192 → Fits w64 n
 fits n h = search (rules, h)
 
-pub overflow-add-self : goal.overflow-add-self
-overflow-add-self c =
+pub overflow_add-self : goal.overflow_add-self
+overflow_add-self c =
     let s = c.args.self.now in
     let bs = s.book.now in
     let rest = drop s.at bs in

@@ -1,4 +1,4 @@
-use Rattle.std.proofs.Common.{◌≡◌, ◌<◌, ◌≤◌, length, take, None, sym, ◌∙◌, arith}
+use Rattle.std.proofs.Common.{◌<◌, ◌≤◌, length, take, None, sym, ◌∙◌, arith}
 use Rattle.std.proofs.lemmas.List.{length-take-le, get_or-take, get_or_past, get_or_default}
 use Rattle.bounded.proofs.lists.Bounded.get.Goals as goal
 
@@ -6,7 +6,7 @@ pub returns-then-k-self : goal.returns-then-k-self
 returns-then-k-self g c =
     let s = c.args.self.now in
     let h : c.args.k < length s.places = omega (arith, s.sized, s.few) in
-    c.as-ref.ensures.value ∙ get_or_default s.places c.args.k _ None h ∙ sym (get_or-take s.len s.places c.args.k None c.if-k-self.true)
+    c.as_ref.ensures.value ∙ get_or_default s.places c.args.k _ None h ∙ sym (get_or-take s.len s.places c.args.k None c.if-k-self.true)
 
 pub returns-else-k-self : goal.returns-else-k-self
 returns-else-k-self g c =

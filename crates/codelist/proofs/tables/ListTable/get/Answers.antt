@@ -6,7 +6,7 @@ pub returns-then-k-self : goal.returns-then-k-self
 returns-then-k-self c =
     let s = c.args.self.now in
     let h : c.args.k < length s.lists = omega (arith, s.sized, s.few) in
-    c.as-ref.ensures.value ∙ get_or_default s.lists c.args.k _ None h ∙ sym (get_or-take s.len s.lists c.args.k None c.if-k-self.true)
+    c.as_ref.ensures.value ∙ get_or_default s.lists c.args.k _ None h ∙ sym (get_or-take s.len s.lists c.args.k None c.if-k-self.true)
 
 pub returns-else-k-self : goal.returns-else-k-self
 returns-else-k-self c =

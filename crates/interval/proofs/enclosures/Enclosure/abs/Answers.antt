@@ -6,18 +6,18 @@ use Rattle.interval.specs.Rules.{abs, kept}
 use Rattle.interval.proofs.Laws.{abs_follows}
 use Rattle.interval.proofs.enclosures.Enclosure.abs.Goals as goal
 
-pub returns-in-default : goal.returns-in-default
+pub returns-in_default : goal.returns-in_default
 unfolding abs
-returns-in-default c = abs_follows c.args.self NoBounds (sym (λ i. abs (c.in-default.is i)))
+returns-in_default c = abs_follows c.args.self NoBounds (sym (λ i. abs (c.in_default.is i)))
 
 pub returns : goal.returns
 unfolding abs
 returns c =
     let fa : SFits w32 c.in-Bounds.a = search rules in
     let fb : SFits w32 c.in-Bounds.b = search rules in
-    let k0 : SFits w64 c.nearest-size.result = record { sfits = c.nearest-size.type-inv } in
-    let k1 : SFits w64 c.farthest-size.result = record { sfits = c.farthest-size.type-inv } in
-    let e0 = simp to_z-of_z at c.nearest-size.ensures in
-    let e1 = simp to_z-of_z at c.farthest-size.ensures in
+    let k0 : SFits w64 c.nearest_size.result = record { sfits = c.nearest_size.type_inv } in
+    let k1 : SFits w64 c.farthest_size.result = record { sfits = c.farthest_size.type_inv } in
+    let e0 = simp to_z-of_z at c.nearest_size.ensures in
+    let e1 = simp to_z-of_z at c.farthest_size.ensures in
     let k = simp to_z-of_z at c.keep.ensures in
     abs_follows c.args.self c.keep.result (k ∙ (λ i. kept (e0 i) (e1 i)) ∙ sym (λ i. abs (c.in-Bounds.is i)))

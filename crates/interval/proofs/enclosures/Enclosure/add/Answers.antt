@@ -6,13 +6,13 @@ use Rattle.interval.specs.Rules.{add}
 use Rattle.interval.proofs.Laws.{add_follows}
 use Rattle.interval.proofs.enclosures.Enclosure.add.Goals as goal
 
-pub returns-in-default : goal.returns-in-default
+pub returns-in_default : goal.returns-in_default
 unfolding add
-returns-in-default c = add_follows c.args.self c.args.other NoBounds (sym (λ i. add (c.in-default.is i) c.args.other))
+returns-in_default c = add_follows c.args.self c.args.other NoBounds (sym (λ i. add (c.in_default.is i) c.args.other))
 
-pub returns-in-default-other : goal.returns-in-default-other
+pub returns-in_default-other : goal.returns-in_default-other
 unfolding add
-returns-in-default-other c = add_follows c.args.self c.args.other NoBounds (sym (λ i. add (c.in-Bounds.is i) (c.in-default-other.is i)))
+returns-in_default-other c = add_follows c.args.self c.args.other NoBounds (sym (λ i. add (c.in-Bounds.is i) (c.in_default-other.is i)))
 
 pub returns : goal.returns
 unfolding add

@@ -7,13 +7,13 @@ use Rattle.interval.specs.Rules.{common, kept}
 use Rattle.interval.proofs.Laws.{common_follows}
 use Rattle.interval.proofs.enclosures.Enclosure.common.Goals as goal
 
-pub returns-in-default : goal.returns-in-default
+pub returns-in_default : goal.returns-in_default
 unfolding common
-returns-in-default c = common_follows c.args.self c.args.other NoBounds (sym (λ i. common (c.in-default.is i) c.args.other))
+returns-in_default c = common_follows c.args.self c.args.other NoBounds (sym (λ i. common (c.in_default.is i) c.args.other))
 
-pub returns-in-default-other : goal.returns-in-default-other
+pub returns-in_default-other : goal.returns-in_default-other
 unfolding common
-returns-in-default-other c = common_follows c.args.self c.args.other NoBounds (sym (λ i. common (c.in-Bounds.is i) (c.in-default-other.is i)))
+returns-in_default-other c = common_follows c.args.self c.args.other NoBounds (sym (λ i. common (c.in-Bounds.is i) (c.in_default-other.is i)))
 
 at_most : (lo hi : ℤ) → lt_z hi lo ≡ false → le_z lo hi ≡ true
 at_most lo hi h = grind (arith, ints)
@@ -28,10 +28,10 @@ returns-then-lo-hi c =
     let fb : SFits w32 c.in-Bounds.b = search rules in
     let fd : SFits w32 c.in-Bounds-other.d = search rules in
     let fe : SFits w32 c.in-Bounds-other.e = search rules in
-    let k0 : SFits w32 c.max-lo.result = record { sfits = c.max-lo.type-inv } in
+    let k0 : SFits w32 c.max-lo.result = record { sfits = c.max-lo.type_inv } in
     let l0 : SFits w64 c.max-lo.result = omega (arith, ints) in
     let e0 = simp to_z-of_z at c.max-lo.ensures.value in
-    let k1 : SFits w32 c.min-hi.result = record { sfits = c.min-hi.type-inv } in
+    let k1 : SFits w32 c.min-hi.result = record { sfits = c.min-hi.type_inv } in
     let l1 : SFits w64 c.min-hi.result = omega (arith, ints) in
     let e1 = simp to_z-of_z at c.min-hi.ensures.value in
     let t = above c.max-lo.result c.min-hi.result (simp to_z-of_z at c.if-lo-hi.true) in
@@ -45,10 +45,10 @@ returns c =
     let fb : SFits w32 c.in-Bounds.b = search rules in
     let fd : SFits w32 c.in-Bounds-other.d = search rules in
     let fe : SFits w32 c.in-Bounds-other.e = search rules in
-    let k0 : SFits w32 c.max-lo.result = record { sfits = c.max-lo.type-inv } in
+    let k0 : SFits w32 c.max-lo.result = record { sfits = c.max-lo.type_inv } in
     let l0 : SFits w64 c.max-lo.result = omega (arith, ints) in
     let e0 = simp to_z-of_z at c.max-lo.ensures.value in
-    let k1 : SFits w32 c.min-hi.result = record { sfits = c.min-hi.type-inv } in
+    let k1 : SFits w32 c.min-hi.result = record { sfits = c.min-hi.type_inv } in
     let l1 : SFits w64 c.min-hi.result = omega (arith, ints) in
     let e1 = simp to_z-of_z at c.min-hi.ensures.value in
     let t = at_most c.max-lo.result c.min-hi.result (simp to_z-of_z at c.if-lo-hi.false) in

@@ -5,13 +5,13 @@ use Rattle.interval.specs.Rules.{div}
 use Rattle.interval.proofs.Laws.{div_follows}
 use Rattle.interval.proofs.enclosures.Enclosure.div.Goals as goal
 
-pub returns-in-default : goal.returns-in-default
+pub returns-in_default : goal.returns-in_default
 unfolding div
-returns-in-default c = div_follows c.args.self c.args.other NoBounds (sym (λ i. div (c.in-default.is i) c.args.other))
+returns-in_default c = div_follows c.args.self c.args.other NoBounds (sym (λ i. div (c.in_default.is i) c.args.other))
 
-pub returns-in-default-other : goal.returns-in-default-other
+pub returns-in_default-other : goal.returns-in_default-other
 unfolding div
-returns-in-default-other c = div_follows c.args.self c.args.other NoBounds (sym (λ i. div (c.in-Bounds.is i) (c.in-default-other.is i)))
+returns-in_default-other c = div_follows c.args.self c.args.other NoBounds (sym (λ i. div (c.in-Bounds.is i) (c.in_default-other.is i)))
 
 pub returns : goal.returns
 unfolding div

@@ -5,10 +5,10 @@ use Rattle.interval.specs.Rules.{clear}
 use Rattle.interval.proofs.Clear.{told}
 use Rattle.interval.proofs.enclosures.Enclosure.is_clear.Goals as goal
 
-pub returns-in-default : goal.returns-in-default
+pub returns-in_default : goal.returns-in_default
 unfolding clear
-returns-in-default c =
-    let t = told c.args.self false (sym (λ i. clear (c.in-default.is i))) in
+returns-in_default c =
+    let t = told c.args.self false (sym (λ i. clear (c.in_default.is i))) in
     record { rule = t.rule; law = t.law; signed = t.signed }
 
 pub returns-then-lo-ge1 : goal.returns-then-lo-ge1

@@ -6,13 +6,13 @@ use Rattle.interval.specs.Rules.{max, kept}
 use Rattle.interval.proofs.Laws.{max_follows}
 use Rattle.interval.proofs.enclosures.Enclosure.max.Goals as goal
 
-pub returns-in-default : goal.returns-in-default
+pub returns-in_default : goal.returns-in_default
 unfolding max
-returns-in-default c = max_follows c.args.self c.args.other NoBounds (sym (λ i. max (c.in-default.is i) c.args.other))
+returns-in_default c = max_follows c.args.self c.args.other NoBounds (sym (λ i. max (c.in_default.is i) c.args.other))
 
-pub returns-in-default-other : goal.returns-in-default-other
+pub returns-in_default-other : goal.returns-in_default-other
 unfolding max
-returns-in-default-other c = max_follows c.args.self c.args.other NoBounds (sym (λ i. max (c.in-Bounds.is i) (c.in-default-other.is i)))
+returns-in_default-other c = max_follows c.args.self c.args.other NoBounds (sym (λ i. max (c.in-Bounds.is i) (c.in_default-other.is i)))
 
 pub returns : goal.returns
 unfolding max
@@ -21,10 +21,10 @@ returns c =
     let fb : SFits w32 c.in-Bounds.b = search rules in
     let fd : SFits w32 c.in-Bounds-other.d = search rules in
     let fe : SFits w32 c.in-Bounds-other.e = search rules in
-    let k0 : SFits w32 c.max.result = record { sfits = c.max.type-inv } in
+    let k0 : SFits w32 c.max.result = record { sfits = c.max.type_inv } in
     let l0 : SFits w64 c.max.result = omega (arith, ints) in
     let e0 = simp to_z-of_z at c.max.ensures.value in
-    let k1 : SFits w32 c.max-2.result = record { sfits = c.max-2.type-inv } in
+    let k1 : SFits w32 c.max-2.result = record { sfits = c.max-2.type_inv } in
     let l1 : SFits w64 c.max-2.result = omega (arith, ints) in
     let e1 = simp to_z-of_z at c.max-2.ensures.value in
     let k = simp to_z-of_z at c.keep.ensures in

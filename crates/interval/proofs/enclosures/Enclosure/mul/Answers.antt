@@ -5,13 +5,13 @@ use Rattle.interval.specs.Rules.{mul}
 use Rattle.interval.proofs.Laws.{mul_follows}
 use Rattle.interval.proofs.enclosures.Enclosure.mul.Goals as goal
 
-pub returns-in-default : goal.returns-in-default
+pub returns-in_default : goal.returns-in_default
 unfolding mul
-returns-in-default c = mul_follows c.args.self c.args.other NoBounds (sym (λ i. mul (c.in-default.is i) c.args.other))
+returns-in_default c = mul_follows c.args.self c.args.other NoBounds (sym (λ i. mul (c.in_default.is i) c.args.other))
 
-pub returns-in-default-other : goal.returns-in-default-other
+pub returns-in_default-other : goal.returns-in_default-other
 unfolding mul
-returns-in-default-other c = mul_follows c.args.self c.args.other NoBounds (sym (λ i. mul (c.in-Bounds.is i) (c.in-default-other.is i)))
+returns-in_default-other c = mul_follows c.args.self c.args.other NoBounds (sym (λ i. mul (c.in-Bounds.is i) (c.in_default-other.is i)))
 
 pub returns : goal.returns
 unfolding mul

@@ -7,9 +7,9 @@ use Rattle.interval.specs.Rules.{neg, kept}
 use Rattle.interval.proofs.Laws.{neg_follows}
 use Rattle.interval.proofs.enclosures.Enclosure.neg.Goals as goal
 
-pub returns-in-default : goal.returns-in-default
+pub returns-in_default : goal.returns-in_default
 unfolding neg
-returns-in-default c = neg_follows c.args.self NoBounds (sym (λ i. neg (c.in-default.is i)))
+returns-in_default c = neg_follows c.args.self NoBounds (sym (λ i. neg (c.in_default.is i)))
 
 pub returns : goal.returns
 unfolding neg

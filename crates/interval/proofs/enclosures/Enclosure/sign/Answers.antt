@@ -6,10 +6,10 @@ use Rattle.interval.specs.Rules.{sign_of}
 use Rattle.interval.proofs.Clear.{signed}
 use Rattle.interval.proofs.enclosures.Enclosure.sign.Goals as goal
 
-pub returns-in-default : goal.returns-in-default
+pub returns-in_default : goal.returns-in_default
 unfolding sign_of
-returns-in-default c =
-    let t = signed c.args.self Unknown (sym (λ i. sign_of (c.in-default.is i))) in
+returns-in_default c =
+    let t = signed c.args.self Unknown (sym (λ i. sign_of (c.in_default.is i))) in
     record { rule = t.rule; law = t.law }
 
 pub returns-then-lo-ge1 : goal.returns-then-lo-ge1

@@ -6,13 +6,13 @@ use Rattle.interval.specs.Rules.{sub}
 use Rattle.interval.proofs.Laws.{sub_follows}
 use Rattle.interval.proofs.enclosures.Enclosure.sub.Goals as goal
 
-pub returns-in-default : goal.returns-in-default
+pub returns-in_default : goal.returns-in_default
 unfolding sub
-returns-in-default c = sub_follows c.args.self c.args.other NoBounds (sym (λ i. sub (c.in-default.is i) c.args.other))
+returns-in_default c = sub_follows c.args.self c.args.other NoBounds (sym (λ i. sub (c.in_default.is i) c.args.other))
 
-pub returns-in-default-other : goal.returns-in-default-other
+pub returns-in_default-other : goal.returns-in_default-other
 unfolding sub
-returns-in-default-other c = sub_follows c.args.self c.args.other NoBounds (sym (λ i. sub (c.in-Bounds.is i) (c.in-default-other.is i)))
+returns-in_default-other c = sub_follows c.args.self c.args.other NoBounds (sym (λ i. sub (c.in-Bounds.is i) (c.in_default-other.is i)))
 
 pub returns : goal.returns
 unfolding sub

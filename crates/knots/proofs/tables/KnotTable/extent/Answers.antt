@@ -31,9 +31,9 @@ loop-knot-preserved c =
     let n = c.loop-knot.knot-index in
     let e = c.loop-knot.extent in
     let k = get_or ks n none in
-    let next : c.if-is-inside.extent ≡ cond (inside cell k) (joined e (rounded (whole k.y) (whole k.y))) e = elim c.if-is-inside.branch [
-      | then-is-inside w ↦ w.extent-is ∙ taken_in e w.joined-extent-then-is-inside.result w.level.result k (inside cell k) w.if-is-inside.ensures w.level.ensures w.joined-extent-then-is-inside.ensures.lo w.joined-extent-then-is-inside.ensures.hi
-      | else-is-inside w ↦ w.extent-is ∙ left_out e e e k (inside cell k) w.if-is-inside.ensures
+    let next : c.if-is_inside.extent ≡ cond (inside cell k) (joined e (rounded (whole k.y) (whole k.y))) e = elim c.if-is_inside.branch [
+      | then-is-inside w ↦ w.extent-is ∙ taken_in e w.joined-extent-then-is_inside.result w.level.result k (inside cell k) w.if-is_inside.ensures w.level.ensures w.joined-extent-then-is_inside.ensures.lo w.joined-extent-then-is_inside.ensures.hi
+      | else-is-inside w ↦ w.extent-is ∙ left_out e e e k (inside cell k) w.if-is_inside.ensures
     ] in
     c.loop-knot.invariant ∙ at_drop_more (joined_over cell e) ks n none c.loop-knot-test.true ∙ ap (λ (f : Extent). joined_over cell f (drop (n + 1) ks)) (sym next)
 

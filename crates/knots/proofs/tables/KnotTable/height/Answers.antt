@@ -22,8 +22,8 @@ again x = to_z w32 (of_z w32 x)
 told : (t : KnotTable) (x : ℤ) → SFits w32 x → (e : Extent) (u : Fraction) → e ≡ rounded u u → height_at (knots_of t) (whole (again x)) ≡ u → e ≡ rounded (height_at (knots_of t) (whole x)) (height_at (knots_of t) (whole x))
 told t x f e u p q = p ∙ ap (λ (v : Fraction). rounded v v) (sym q ∙ ap (λ (z : ℤ). height_at (knots_of t) (whole z)) (to_z-of_z w32 x f))
 
-pub returns-in-default : goal.returns-in-default
-returns-in-default c =
+pub returns-in_default : goal.returns-in_default
+returns-in_default c =
     let s = table_sound c.args.self.now in
     let e = ap length c.knots-knots.ensures in
     absurd (omega (arith, ltb-true, s.some))
@@ -47,8 +47,8 @@ module _ (t : KnotTable) (x : ℤ) (k : Knot) (rest : List Knot) (n : Prim.Nativ
   here : Walking (knots_of t) x k (get_or rest n none ∷ drop (n + 1) rest)
   here = subst (λ (ls : List Knot). Walking (knots_of t) x k ls) (Rattle.std.proofs.lemmas.List.drop_more rest n none lt) w
 
-pub height-toward-requires : goal.height-toward-requires
-height-toward-requires c =
+pub height_toward-requires : goal.height_toward-requires
+height_toward-requires c =
     let rest = behind 1 c.knots-knots.result.now in
     let n = c.loop-knot.knot-index in
     let x = again c.args.x in
@@ -66,7 +66,7 @@ returns-then-reaches-2 c =
     let x = again c.args.x in
     let k = c.loop-knot.before in
     let w = here c.args.self.now x k rest n c.loop-knot-test.true c.loop-knot.invariant in
-    told c.args.self.now c.args.x c.ranges.x c.height-toward.result (line k (get_or rest n none) (whole x)) c.height-toward.ensures (on_segment (knots_of c.args.self.now) x k (get_or rest n none) (drop (n + 1) rest) w c.if-reaches-2.ensures)
+    told c.args.self.now c.args.x c.ranges.x c.height_toward.result (line k (get_or rest n none) (whole x)) c.height_toward.ensures (on_segment (knots_of c.args.self.now) x k (get_or rest n none) (drop (n + 1) rest) w c.if-reaches-2.ensures)
 
 pub loop-knot-preserved : goal.loop-knot-preserved
 loop-knot-preserved c =

@@ -13,7 +13,7 @@ loop-n-preserved c =
     let ks = c.args.knots.now in
     let n = c.loop-n.n in
     let i = c.loop-n.invariant in
-    let few = lined_few ks (sym c.if-not-are-lined.ensures) in
+    let few = lined_few ks (sym c.if-not-are_lined.ensures) in
     let h = c.loop-n-test.true in
     (length-set c.loop-n.places n (get_or ks n none) ∙ i.0, copied c.loop-n.places ks n none (omega (arith, i.0)) h i.1)
 
@@ -23,15 +23,15 @@ all_copied places ks n h k e =
     let m : length ks ≡ n = omega arith in
     ap (λ (j : ℕ). take j places) m ∙ e ∙ take_all n ks k
 
-pub invariant-of-result : goal.invariant-of-result
-invariant-of-result c =
+pub invariant_of-result : goal.invariant_of-result
+invariant_of-result c =
     let ks = c.args.knots.now in
     let i = c.loop-n.invariant in
     let e = all_copied c.loop-n.places ks c.loop-n.n c.loop-n.auto.n-end c.loop-n-test.false i.1 in
-    (i.0, (lined_few ks (sym c.if-not-are-lined.ensures), (subst (λ (xs : List Knot). T (valid c.args.reading xs)) (sym e) (is_valid c.args.reading ks c.if-reading-gt7.false c.if-not-are-ranged.ensures c.if-not-are-lined.ensures), tt)))
+    (i.0, (lined_few ks (sym c.if-not-are_lined.ensures), (subst (λ (xs : List Knot). T (valid c.args.reading xs)) (sym e) (is_valid c.args.reading ks c.if-reading-gt7.false c.if-not-are_ranged.ensures c.if-not-are_lined.ensures), tt)))
 
 pub returns : goal.returns
 returns c =
     let ks = c.args.knots.now in
     let i = c.loop-n.invariant in
-    (no_fault c.args.reading ks c.if-reading-gt7.false c.if-not-are-ranged.ensures c.if-not-are-lined.ensures, refl, all_copied c.loop-n.places ks c.loop-n.n c.loop-n.auto.n-end c.loop-n-test.false i.1)
+    (no_fault c.args.reading ks c.if-reading-gt7.false c.if-not-are_ranged.ensures c.if-not-are_lined.ensures, refl, all_copied c.loop-n.places ks c.loop-n.n c.loop-n.auto.n-end c.loop-n-test.false i.1)

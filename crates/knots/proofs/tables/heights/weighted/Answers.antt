@@ -4,8 +4,8 @@ use Rattle.std.proofs.lemmas.Int.{to_z-of_z}
 use Rattle.exact.proofs.Integers.{product_size}
 use Rattle.knots.proofs.tables.heights.weighted.Goals as goal
 
-pub overflow-mul-result : goal.overflow-mul-result
-overflow-mul-result c =
+pub overflow_mul-result : goal.overflow_mul-result
+overflow_mul-result c =
     let f = c.ranges.y in
     let g = c.ranges.way in
     let f' : SFits w64 c.args.y = omega (arith, ints) in

@@ -11,17 +11,17 @@ none = record { x = pos 0; y = pos 0 }
 pub loop-knot-init : goal.loop-knot-init
 loop-knot-init c = let h : 1 ≤ length c.args.knots.now = omega (arith, ltb-false) in ap ascending (first_and_rest c.args.knots.now none h)
 
-pub returns-then-not-is-left-of : goal.returns-then-not-is-left-of
-returns-then-not-is-left-of c =
+pub returns-then-not-is_left_of : goal.returns-then-not-is_left_of
+returns-then-not-is_left_of c =
     let rest = behind 1 c.args.knots.now in
     let n = c.loop-knot.knot-index in
-    sym (c.loop-knot.invariant ∙ at_drop_more (ascend_from c.loop-knot.before) rest n none c.loop-knot-test.true ∙ ap (λ (b : Bool). b && ascend_from (get_or rest n none) (drop (n + 1) rest)) (sym c.if-not-is-left-of.ensures))
+    sym (c.loop-knot.invariant ∙ at_drop_more (ascend_from c.loop-knot.before) rest n none c.loop-knot-test.true ∙ ap (λ (b : Bool). b && ascend_from (get_or rest n none) (drop (n + 1) rest)) (sym c.if-not-is_left_of.ensures))
 
 pub loop-knot-preserved : goal.loop-knot-preserved
 loop-knot-preserved c =
     let rest = behind 1 c.args.knots.now in
     let n = c.loop-knot.knot-index in
-    c.loop-knot.invariant ∙ at_drop_more (ascend_from c.loop-knot.before) rest n none c.loop-knot-test.true ∙ ap (λ (b : Bool). b && ascend_from (get_or rest n none) (drop (n + 1) rest)) (sym c.if-not-is-left-of.ensures)
+    c.loop-knot.invariant ∙ at_drop_more (ascend_from c.loop-knot.before) rest n none c.loop-knot-test.true ∙ ap (λ (b : Bool). b && ascend_from (get_or rest n none) (drop (n + 1) rest)) (sym c.if-not-is_left_of.ensures)
 
 pub returns : goal.returns
 returns c =

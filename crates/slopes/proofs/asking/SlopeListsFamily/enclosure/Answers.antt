@@ -7,4 +7,4 @@ pub returns : goal.returns
 returns c =
     let there = c.if-not-exists.ensures in
     let so = c.in-Some.ensures in
-    c.enclosure-by-slopes.ensures.rule ∙ (λ i. cond (there i) (slope_answer_by (so i) c.args.cell c.args.row.now) NoBounds)
+    c.enclosure_by_slopes.ensures.rule ∙ (λ i. cond (there i) (slope_answer_by (so i) c.args.cell c.args.row.now) NoBounds)

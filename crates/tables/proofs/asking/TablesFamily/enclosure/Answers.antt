@@ -8,4 +8,4 @@ pub returns : goal.returns
 returns c =
     let there = c.if-not-exists.ensures in
     let so = c.in-Some.ensures in
-    c.table-enclosure.ensures ∙ (λ i. cond (there i) (answer_by table_curve (so i) c.args.cell c.args.row.now) NoBounds)
+    c.table_enclosure.ensures ∙ (λ i. cond (there i) (answer_by table_curve (so i) c.args.cell c.args.row.now) NoBounds)
