@@ -1,5 +1,6 @@
 // Cells, readings, and families of curves: what a family means, and what it answers.
 #![tactic(auto)]
+
 pub mod cells;
 pub mod families;
 pub mod pairs;

@@ -1,5 +1,5 @@
 -- What a clear enclosure and its sign say of the value.
-use Rattle.std.proofs.Common.{◌≡◌, ℕ, Bool, true, false, cond, ◌||◌, ◌⊎◌, ℤ, pos, negsuc, ◌*ℤ◌, neg_ℤ, ◌≤ℤ◌, sym, refl, ap, ◌∙◌, subst, inl, inr, arith}
+use Rattle.std.proofs.Common.{◌≡◌, Bool, true, false, cond, ◌||◌, ℤ, pos, negsuc, ◌≤ℤ◌, sym, refl, ◌∙◌, subst, inl, inr, arith}
 use lib.Signed.{le_z}
 use borrow.Author.Differences.{ints}
 use Rattle.exact.specs.Fraction.{Fraction}

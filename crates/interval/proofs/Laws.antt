@@ -1,6 +1,6 @@
 -- The law of each rule: where the operands hold their exact values, the result holds the exact result; and its ends lie within
 -- the limit.
-use Rattle.std.proofs.Common.{◌≡◌, ℕ, Bool, true, false, cond, ◌&&◌, ◌||◌, ◌⊎◌, ℤ, pos, negsuc, ◌+ℤ◌, ◌-ℤ◌, ◌*ℤ◌, neg_ℤ, nat_abs, ◌≤ℤ◌, ◌<ℤ◌, sym, refl, ap, ◌∙◌, subst, inl, inr, arith}
+use Rattle.std.proofs.Common.{◌≡◌, Bool, true, false, cond, ◌&&◌, ◌||◌, ℤ, pos, ◌+ℤ◌, ◌-ℤ◌, neg_ℤ, ◌≤ℤ◌, ◌<ℤ◌, sym, refl, ◌∙◌, subst, inl, inr, arith}
 use lib.Signed.{lt_z, le_z, clash_ℤ}
 use borrow.Author.Differences.{ints}
 use Rattle.std.specs.Int.{int_min, int_max}
@@ -9,15 +9,15 @@ use Rattle.std.proofs.lemmas.Bool.{and_parts}
 use Rattle.exact.proofs.Integers.{linear, by_order}
 use Rattle.exact.proofs.Ring.{zero_by}
 use Rattle.exact.proofs.Fractions.{≺-≼}
-use Rattle.exact.specs.Fraction.{Fraction, plus, minus, negated, times, absolute, larger, ◌≼◌, ◌≺◌}
-use Rattle.exact.specs.Value.{Value, none, some, each, both, divided, quotient, negative, choice}
+use Rattle.exact.specs.Fraction.{Fraction, plus, minus, negated, times, absolute, larger}
+use Rattle.exact.specs.Value.{Value, none, some, each, both, divided, quotient, negative}
 use Rattle.interval.specs.declared.enclosures.Enclosure.{Enclosure}
 use Rattle.interval.specs.declared.enclosures.Enclosure.TheVariants.{NoBounds, Bounds}
 use Rattle.interval.specs.declared.enclosures.Branch.{Branch}
 use Rattle.interval.specs.declared.enclosures.Branch.TheVariants.{First, Second, Both, Neither}
 use Rattle.interval.specs.Rules.{within, kept, on1, on2, low_product, high_product, products, low_quotient, high_quotient, quotients, quotients_apart, spans_zero, size, nearest, farthest, neg, add, sub, mul, div, abs, max, hull, common, branch, held, taken, chi}
 use Rattle.interval.specs.Meaning.{Between, Holds, InRange, Law1, Law2, HullLaw, CommonLaw, BranchLaw, Follows}
-use Rattle.interval.proofs.OneEnd.{cond_if, cond_by, absolute_by, larger_by, max_by, min_by, Low, High, low_≼, high_≼, low_less, high_more, widen, low_nonneg, low_pos, high_nonpos, high_neg, ends_ordered, between_negated}
+use Rattle.interval.proofs.OneEnd.{cond_if, cond_by, absolute_by, larger_by, max_by, min_by, Low, High, low_≼, low_less, high_more, widen, low_nonneg, low_pos, high_neg, between_negated}
 use Rattle.interval.proofs.Products.{between_plus, between_times}
 use Rattle.interval.proofs.Quotients.{quotient_pos, quotient-neg}
 

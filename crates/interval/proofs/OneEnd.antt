@@ -1,10 +1,10 @@
 -- Tests by cases, and what one end of a pair says of a fraction.
-use Rattle.std.proofs.Common.{◌≡◌, ℕ, zero, suc, Bool, true, false, cond, ◌&&◌, ℤ, pos, negsuc, ◌+ℤ◌, ◌-ℤ◌, ◌*ℤ◌, neg_ℤ, nat_abs, ◌≤ℤ◌, ◌<ℤ◌, sym, refl, ap, ◌∙◌, subst, arith}
-use lib.Signed.{lt_z, le_z}
+use Rattle.std.proofs.Common.{◌≡◌, Bool, true, false, cond, ℤ, pos, negsuc, ◌*ℤ◌, neg_ℤ, nat_abs, ◌≤ℤ◌, ◌<ℤ◌, refl, arith}
+use lib.Signed.{lt_z}
 use borrow.Author.Differences.{ints}
 use Rattle.std.specs.Int.{int_min, int_max}
 use Rattle.exact.proofs.Integers.{linear, ≤ℤ-mul, ≤ℤ_cancel, product_nonneg, product_pos, neg-*ℤ, *ℤ-neg}
-use Rattle.exact.proofs.Ring.{Ex, lit, ◌⊗◌, ◌≐◌, ring2, ring3}
+use Rattle.exact.proofs.Ring.{lit, ◌⊗◌, ◌≐◌, ring2, ring3}
 use Rattle.exact.proofs.Fractions.{den_pos}
 use Rattle.exact.specs.Fraction.{Fraction, negated, absolute, larger, ◌≃◌, ◌≼◌, ◌≺◌}
 use Rattle.interval.specs.Meaning.{Between}

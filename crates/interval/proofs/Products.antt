@@ -1,9 +1,9 @@
 -- Sums and products of enclosed fractions are enclosed.
-use Rattle.std.proofs.Common.{◌≡◌, ℤ, pos, ◌+ℤ◌, ◌*ℤ◌, neg_ℤ, ◌≤ℤ◌, ◌<ℤ◌, refl, arith}
+use Rattle.std.proofs.Common.{ℤ, pos, ◌+ℤ◌, ◌*ℤ◌, neg_ℤ, ◌≤ℤ◌, ◌<ℤ◌, refl, arith}
 use borrow.Author.Differences.{ints}
 use Rattle.std.proofs.lemmas.Int.{clamps}
 use Rattle.exact.proofs.Integers.{linear, product_pos, ≤ℤ-mul, ≤ℤ-mul-neg, ≤ℤ_cancel, by_order}
-use Rattle.exact.proofs.Ring.{Ex, lit, ◌⊕◌, ◌⊗◌, ⊖◌, ◌≐◌, ring2, ring3, ring4}
+use Rattle.exact.proofs.Ring.{lit, ◌⊕◌, ◌⊗◌, ⊖◌, ◌≐◌, ring2, ring3, ring4}
 use Rattle.exact.proofs.Fractions.{den_pos}
 use Rattle.exact.proofs.Rounding.{floor_is, ceiling_is}
 use Rattle.exact.specs.Fraction.{Fraction, plus, times}

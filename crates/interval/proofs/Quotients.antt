@@ -2,7 +2,7 @@
 use Rattle.std.proofs.Common.{◌≡◌, ℕ, zero, suc, ◌*◌, ◌<◌, ℤ, pos, negsuc, ◌*ℤ◌, neg_ℤ, ◌≤ℤ◌, ◌<ℤ◌, refl, subst, arith}
 use borrow.Author.Differences.{ints}
 use Rattle.exact.proofs.Integers.{linear, ≤ℤ-mul, ≤ℤ-mul-neg, ≤ℤ_cancel, neg-*ℤ}
-use Rattle.exact.proofs.Ring.{Ex, lit, ◌⊗◌, ⊖◌, ◌≐◌, ring2, ring3}
+use Rattle.exact.proofs.Ring.{lit, ◌⊗◌, ⊖◌, ◌≐◌, ring2, ring3}
 use Rattle.exact.proofs.Fractions.{den_pos}
 use Rattle.exact.proofs.Rounding.{floor_is, ceiling_is}
 use Rattle.exact.specs.Fraction.{Fraction}

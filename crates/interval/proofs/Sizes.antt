@@ -1,8 +1,8 @@
 -- The numbers on the way to an enclosure fit 64 bits.
-use Rattle.std.proofs.Common.{◌≡◌, ℕ, ◌^◌, ◌<◌, ◌≤◌, ℤ, pos, negsuc, ◌*ℤ◌, nat_abs, Some, None, Option, unwrap_or, sym, refl, ap, ◌∙◌, subst, arith, w32, w64, SFits, to_z, of_z}
+use Rattle.std.proofs.Common.{◌≡◌, ℕ, ◌^◌, ◌≤◌, ℤ, pos, ◌*ℤ◌, nat_abs, Option, unwrap_or, sym, ap, arith, w32, w64, SFits}
 use borrow.Author.Differences.{ints}
 use Rattle.std.specs.Int.{int_min, int_max}
-use Rattle.std.proofs.lemmas.Int.{to_z-of_z, clamps}
+use Rattle.std.proofs.lemmas.Int.{clamps}
 use Rattle.exact.specs.Rounding.{floor, ceiling, floor_div, ceil_div}
 use Rattle.exact.proofs.Integers.{product_size}
 use Rattle.exact.proofs.Dividing.{Overflows, floor-fits, ceiling-fits, answered}

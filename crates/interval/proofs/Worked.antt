@@ -1,8 +1,7 @@
 -- Worked values of the rules, by computing on the definitions.
-use Rattle.std.proofs.Common.{◌≡◌, ℤ, pos, negsuc, refl}
-use Rattle.interval.specs.declared.enclosures.Enclosure.{Enclosure}
+use Rattle.std.proofs.Common.{◌≡◌, pos, negsuc, refl}
 use Rattle.interval.specs.declared.enclosures.Enclosure.TheVariants.{NoBounds, Bounds}
-use Rattle.interval.specs.Rules.{neg, add, sub, mul, div, abs, max, hull, common, chi}
+use Rattle.interval.specs.Rules.{add, mul, div, abs, hull, chi}
 
 product_of_counts : mul (Bounds (pos 1) (pos 1)) (Bounds (pos 1) (pos 1)) ≡ Bounds (pos 0) (pos 1)
 unfolding mul

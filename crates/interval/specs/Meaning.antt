@@ -1,5 +1,5 @@
 -- What an enclosure, a sign and a branch say of exact values, and the law of a rule.
-use Rattle.std.specs.Prelude.{◌≡◌, ℕ, Bool, true, false, ◌⊎◌, ℤ, pos, negsuc, ◌*ℤ◌, neg_ℤ, ◌≤ℤ◌, ◌<ℤ◌}
+use Rattle.std.specs.Prelude.{◌≡◌, Bool, true, false, ◌⊎◌, ℤ, pos, ◌*ℤ◌, neg_ℤ, ◌≤ℤ◌}
 use Rattle.exact.specs.Fraction.{Fraction}
 use Rattle.exact.specs.Value.{Value, none, some, negative, choice}
 use Rattle.interval.specs.declared.enclosures.Enclosure.{Enclosure}
@@ -8,7 +8,7 @@ use Rattle.interval.specs.declared.enclosures.Branch.{Branch}
 use Rattle.interval.specs.declared.enclosures.Branch.TheVariants.{First, Second, Both, Neither}
 use Rattle.interval.specs.declared.enclosures.Sign.{Sign}
 use Rattle.interval.specs.declared.enclosures.Sign.TheVariants.{Plus, Minus, Unknown}
-use Rattle.interval.specs.Rules.{limit, within}
+use Rattle.interval.specs.Rules.{within}
 
 -- lo ≤ 1000·v ≤ hi
 abbrev pub Between : ℤ → ℤ → Fraction → Type 0

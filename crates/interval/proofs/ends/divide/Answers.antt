@@ -1,4 +1,4 @@
-use Rattle.std.proofs.Common.{◌≡◌, cond, ◌||◌, sym, ◌∙◌}
+use Rattle.std.proofs.Common.{cond, ◌||◌, ◌∙◌}
 use Rattle.std.proofs.lemmas.Int.{to_z-of_z}
 use Rattle.interval.specs.declared.enclosures.Enclosure.TheVariants.{NoBounds}
 use Rattle.interval.specs.Rules.{quotients}

@@ -1,7 +1,6 @@
-use Rattle.std.proofs.Common.{◌≡◌, ◌^◌, ◌≤◌, pos, ◌*ℤ◌, nat_abs, sym, ap, ◌∙◌, subst, arith, w32, w64, SFits}
+use Rattle.std.proofs.Common.{◌^◌, arith, w64, SFits}
 use borrow.Author.Differences.{ints}
 use Rattle.std.proofs.lemmas.Int.{to_z-of_z}
-use Rattle.interval.specs.Rules.{least, greatest, kept}
 use Rattle.interval.proofs.Sizes.{least_of_size, greatest_of_size}
 use Rattle.interval.proofs.ends.multiply.Goals as goal
 

@@ -1,4 +1,4 @@
-use Rattle.std.proofs.Common.{◌≡◌, false, ◌||◌, negsuc, sym, ◌∙◌, w32, SFits, rules}
+use Rattle.std.proofs.Common.{false, ◌||◌, negsuc, sym, ◌∙◌, w32, SFits, rules}
 use lib.Signed.{le_z}
 use Rattle.std.proofs.lemmas.Int.{to_z-of_z}
 use Rattle.interval.specs.Rules.{clear}

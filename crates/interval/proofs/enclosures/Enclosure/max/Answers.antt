@@ -1,4 +1,4 @@
-use Rattle.std.proofs.Common.{◌≡◌, ℤ, sym, ◌∙◌, arith, w32, w64, SFits, rules}
+use Rattle.std.proofs.Common.{sym, ◌∙◌, arith, w32, w64, SFits, rules}
 use borrow.Author.Differences.{ints}
 use Rattle.std.proofs.lemmas.Int.{to_z-of_z}
 use Rattle.interval.specs.declared.enclosures.Enclosure.TheVariants.{NoBounds}

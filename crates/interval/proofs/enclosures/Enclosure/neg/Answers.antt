@@ -1,4 +1,4 @@
-use Rattle.std.proofs.Common.{◌≡◌, pos, ◌-ℤ◌, neg_ℤ, sym, ◌∙◌, arith, w32, w64, SFits, rules}
+use Rattle.std.proofs.Common.{pos, ◌-ℤ◌, neg_ℤ, sym, ◌∙◌, arith, w32, w64, SFits, rules}
 use lib.IntN.{+ℤ_idl}
 use borrow.Author.Differences.{ints}
 use Rattle.std.proofs.lemmas.Int.{to_z-of_z}
