@@ -1,5 +1,6 @@
 // Code lists: a curve as lines of arithmetic, its exact value, and running it over any kind of value.
 #![tactic(auto)]
+
 pub mod curves;
 pub mod intervals;
 pub mod kinds;

@@ -11,7 +11,7 @@ use Rattle.knots.specs.Values.{height_at}
 use Rattle.knots.specs.Extremes.{inside, rounded, extent_of}
 use Rattle.knots.proofs.Walks.{joined, joined_over, joined_is, joined_over_lem, has_extremes}
 use Rattle.knots.proofs.tables.KnotTable.extent.Goals as goal
-use Rattle.knots.proofs.tables.KnotTable.extent.Goals.{then-is-inside, else-is-inside}
+use Rattle.knots.proofs.tables.KnotTable.extent.Goals.{then-is_inside, else-is_inside}
 
 abbrev none : Knot
 none = record { x = pos 0; y = pos 0 }
@@ -32,8 +32,8 @@ loop-knot-preserved c =
     let e = c.loop-knot.extent in
     let k = get_or ks n none in
     let next : c.if-is_inside.extent ≡ cond (inside cell k) (joined e (rounded (whole k.y) (whole k.y))) e = elim c.if-is_inside.branch [
-      | then-is-inside w ↦ w.extent-is ∙ taken_in e w.joined-extent-then-is_inside.result w.level.result k (inside cell k) w.if-is_inside.ensures w.level.ensures w.joined-extent-then-is_inside.ensures.lo w.joined-extent-then-is_inside.ensures.hi
-      | else-is-inside w ↦ w.extent-is ∙ left_out e e e k (inside cell k) w.if-is_inside.ensures
+      | then-is_inside w ↦ w.extent-is ∙ taken_in e w.joined-extent-then-is_inside.result w.level.result k (inside cell k) w.if-is_inside.ensures w.level.ensures w.joined-extent-then-is_inside.ensures.lo w.joined-extent-then-is_inside.ensures.hi
+      | else-is_inside w ↦ w.extent-is ∙ left_out e e e k (inside cell k) w.if-is_inside.ensures
     ] in
     c.loop-knot.invariant ∙ at_drop_more (joined_over cell e) ks n none c.loop-knot-test.true ∙ ap (λ (f : Extent). joined_over cell f (drop (n + 1) ks)) (sym next)
 

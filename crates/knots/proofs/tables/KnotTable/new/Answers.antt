@@ -28,7 +28,11 @@ invariant_of-result c =
     let ks = c.args.knots.now in
     let i = c.loop-n.invariant in
     let e = all_copied c.loop-n.places ks c.loop-n.n c.loop-n.auto.n-end c.loop-n-test.false i.1 in
-    (i.0, (lined_few ks (sym c.if-not-are_lined.ensures), (subst (λ (xs : List Knot). T (valid c.args.reading xs)) (sym e) (is_valid c.args.reading ks c.if-reading-gt7.false c.if-not-are_ranged.ensures c.if-not-are_lined.ensures), tt)))
+    record {
+      sized = i.0;
+      few = lined_few ks (sym c.if-not-are_lined.ensures);
+      sound = subst (λ (xs : List Knot). T (valid c.args.reading xs)) (sym e) (is_valid c.args.reading ks c.if-reading-gt7.false c.if-not-are_ranged.ensures c.if-not-are_lined.ensures);
+    }
 
 pub returns : goal.returns
 returns c =

@@ -28,15 +28,15 @@ hi_between : (c : goal.After-unwrap_or-hi) → Between c.unwrap_or-hi.result
 hi_between c = subst Between (sym (ceiling_is c)) (ceiling_bounded c.args.n c.args.d c.requires.positive c.requires.low c.requires.high)
 
 pub overflow_cast-result : goal.overflow_cast-result
-overflow_cast-result c = subst (SFits w32) (sym (to_z-of_z w64 c.unwrap_or-lo.result (lo_between c).fits_wide)) (lo_between c).ranges
+overflow_cast-result c = subst (SFits w32) (sym (to_z-of_z w64 c.unwrap_or-lo.result (lo_between c).fits_wide)) (lo_between c).fits
 
 pub overflow_cast-result-2 : goal.overflow_cast-result-2
-overflow_cast-result-2 c = subst (SFits w32) (sym (to_z-of_z w64 c.unwrap_or-hi.result (hi_between c).fits_wide)) (hi_between c).ranges
+overflow_cast-result-2 c = subst (SFits w32) (sym (to_z-of_z w64 c.unwrap_or-hi.result (hi_between c).fits_wide)) (hi_between c).fits
 
 pub returns : goal.returns
 returns c =
     let a = (lo_between c).fits_wide in
     let b = (hi_between c).fits_wide in
-    let d = (lo_between c).ranges in
-    let e = (hi_between c).ranges in
+    let d = (lo_between c).fits in
+    let e = (hi_between c).fits in
     record { lo = simp to_z-of_z (floor_is c); hi = simp to_z-of_z (ceiling_is c) }
