@@ -1,6 +1,7 @@
 // An account of curves given as code lists: their lines with the entries over a cell, their enclosures by lists and by slopes, and for
 // a flame margin which cells of a window are provably away from zero, and why. All numbers are counts (thousandths).
 #![tactic(auto)]
+
 ghost use Rattle.std.specs.Prelude.{◌≡◌};
 ghost use Rattle.account.specs.Cells.{halved, Narrower};
 

@@ -1,5 +1,6 @@
 // Books of curves and tables: the reader that hands out their records, and the families that a book fills.
 #![tactic(auto)]
+
 pub mod commands;
 mod knots;
 pub mod lines;

@@ -1,5 +1,6 @@
 // C calls for the comparison from the host: the enclosures of a list by plain rules and by slopes, and of a knot table. For tests alone.
 #![tactic(auto)]
+
 ghost use Rattle.std.specs.Prelude.{◌≡◌, drop, pos, ◌≢◌};
 ghost use Rattle.hostcall.specs.Numbers.{Refused};
 

@@ -1,5 +1,6 @@
 // Lists with slopes: the kind that keeps a slope for each line, and the family that answers from it.
 #![tactic(auto)]
+
 pub mod asking;
 pub mod lists;
 pub mod tables;

@@ -1,5 +1,6 @@
 // Curves given as knot tables: a table less the true temperature of its reading.
 #![tactic(auto)]
+
 pub mod asking;
 pub mod curves;
 
