@@ -81,7 +81,9 @@ impl Enclosure {
         let Bounds { lo: a, hi: b } = self else {
             return NoBounds;
         };
-        keep(nearest_size(a, b), farthest_size(a, b))
+        let near = nearest_size(a, b);
+        let far = farthest_size(a, b);
+        keep(near, far)
     }
 
     // The larger of two, end by end.

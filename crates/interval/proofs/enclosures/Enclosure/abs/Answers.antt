@@ -14,9 +14,9 @@ unfolding abs
 returns c =
     let fa : SFits w32 c.in-Bounds.a = search rules in
     let fb : SFits w32 c.in-Bounds.b = search rules in
-    let k0 : SFits w64 c.nearest_size.result = record { sfits = c.nearest_size.type_inv } in
-    let k1 : SFits w64 c.farthest_size.result = record { sfits = c.farthest_size.type_inv } in
-    let e0 = simp to_z-of_z at c.nearest_size.ensures in
-    let e1 = simp to_z-of_z at c.farthest_size.ensures in
+    let k0 : SFits w64 c.nearest_size-near.result = record { sfits = c.nearest_size-near.type_inv } in
+    let k1 : SFits w64 c.farthest_size-far.result = record { sfits = c.farthest_size-far.type_inv } in
+    let e0 = simp to_z-of_z at c.nearest_size-near.ensures in
+    let e1 = simp to_z-of_z at c.farthest_size-far.ensures in
     let k = simp to_z-of_z at c.keep.ensures in
     abs_follows c.args.self c.keep.result (k ∙ (λ i. kept (e0 i) (e1 i)) ∙ sym (λ i. abs (c.in-Bounds.is i)))
