@@ -1,5 +1,5 @@
 -- Each half of a wide cell is narrower.
-use Rattle.std.proofs.Common.{◌≡◌, ℕ, ◌<◌, false, cond, ℤ, pos, negsuc, ◌+ℤ◌, ◌-ℤ◌, nat_abs, ◌≤ℤ◌, ◌<ℤ◌, Some, None, sym, refl, ◌∙◌, arith}
+use Rattle.std.proofs.Common.{◌≡◌, ◌<◌, false, cond, ℤ, pos, ◌+ℤ◌, ◌-ℤ◌, nat_abs, ◌<ℤ◌, Some, None, sym, ◌∙◌, arith}
 use lib.Signed.{le_z}
 use borrow.Author.Differences.{ints}
 use Rattle.exact.proofs.Rounding.{floor_is}

@@ -1,5 +1,5 @@
 -- Halving cells.
-use Rattle.std.specs.Prelude.{ℕ, ◌<◌, cond, ℤ, pos, ◌-ℤ◌, Some, None, Option, int_le, unsigned_abs}
+use Rattle.std.specs.Prelude.{ℕ, ◌<◌, cond, pos, ◌-ℤ◌, Some, None, Option, int_le, unsigned_abs}
 use Rattle.family.specs.declared.cells.Cell.{Cell}
 use Rattle.family.specs.Cells.{middle}
 

@@ -1,6 +1,6 @@
 -- Worked values of lists over the cell [1000, 2000], by computing on the definitions.
-use Rattle.std.proofs.Common.{◌≡◌, List, [], ◌∷◌, ℤ, pos, negsuc, refl}
-use Rattle.exact.specs.Fraction.{Fraction, whole, ◌≃◌}
+use Rattle.std.proofs.Common.{◌≡◌, List, [], ◌∷◌, pos, negsuc, refl}
+use Rattle.exact.specs.Fraction.{whole}
 use Rattle.exact.specs.Value.{some, Alike}
 use Rattle.interval.specs.declared.enclosures.Enclosure.TheVariants.{Bounds}
 use Rattle.interval.specs.Rules.{add, sub, mul}

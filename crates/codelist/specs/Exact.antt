@@ -1,5 +1,5 @@
 -- The exact value of a list at a point, for true temperatures. Points and temperatures are in counts, values in units.
-use Rattle.std.specs.Prelude.{ℕ, ◌-◌, List, length, ℤ, slice_index_or}
+use Rattle.std.specs.Prelude.{◌-◌, List, length, slice_index_or}
 use Rattle.exact.specs.Fraction.{Fraction, whole, in_units, plus, minus, negated, times, absolute, larger}
 use Rattle.exact.specs.Value.{Value, none, some, each, both, quotient, choice}
 use Rattle.family.specs.Readings.{Temperatures}

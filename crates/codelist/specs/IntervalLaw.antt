@@ -1,13 +1,10 @@
 -- The law of the interval kind, from the laws of the rules on enclosures.
-use Rattle.std.specs.Prelude.{◌≡◌, ℕ, ◌*◌, length, ℤ, pos, ◌*ℤ◌, Some, None, Option, refl}
+use Rattle.std.specs.Prelude.{◌≡◌, length, Some, None, Option, refl}
 use Rattle.std.proofs.Common.{arith}
 use Rattle.std.proofs.lemmas.Int.{ints}
 use Rattle.exact.specs.Fraction.{Fraction, whole, in_units}
-use Rattle.exact.specs.Value.{Value, none, some}
-use Rattle.interval.specs.declared.enclosures.Enclosure.{Enclosure}
-use Rattle.interval.specs.declared.enclosures.Enclosure.TheVariants.{NoBounds, Bounds}
+use Rattle.exact.specs.Value.{some}
 use Rattle.interval.specs.Rules.{neg, add, sub, mul, div, abs, max, chi}
-use Rattle.interval.specs.Meaning.{Holds}
 use Rattle.interval.proofs.Laws.{kept_holds, neg_follows, add_follows, sub_follows, mul_follows, div_follows, abs_follows, max_follows, chi_follows}
 use Rattle.family.specs.declared.cells.Cell.{Cell}
 use Rattle.family.specs.declared.readings.Reading.{Reading}

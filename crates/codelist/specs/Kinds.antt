@@ -1,5 +1,5 @@
 -- What a kind of value is: its rules, what an entry vouches for, and the law that ties them.
-use Rattle.std.specs.Prelude.{◌≡◌, ℕ, true, List, ℤ, Option, slice_index_or, slice_set}
+use Rattle.std.specs.Prelude.{◌≡◌, true, List, ℤ, Option, slice_index_or, slice_set}
 use Rattle.exact.specs.Fraction.{Fraction, whole, in_units, plus, minus, negated, times, absolute, larger}
 use Rattle.exact.specs.Value.{Value, none, some, each, both, quotient, choice}
 use Rattle.family.specs.declared.cells.Cell.{Cell}

@@ -1,29 +1,27 @@
 -- The family of plain lists is lawful: an answer holds the exact value, has its ends within the limit, and what does not exist
 -- has no bounds.
-use Rattle.std.specs.Prelude.{◌≡◌, ℕ, ◌-◌, ◌≤◌, Bool, true, cond, List, length, get_or, pos, Some, None, Option, refl}
-use Rattle.std.proofs.Common.{sym, ap, subst, ◌∙◌, arith}
+use Rattle.std.specs.Prelude.{◌≡◌, ℕ, ◌-◌, ◌≤◌, Bool, true, cond, List, length, pos, Some, None, Option, refl}
+use Rattle.std.proofs.Common.{ap, arith}
 use Rattle.std.proofs.lemmas.List.{length-take-le, get_or_past}
 use Rattle.exact.specs.Fraction.{Fraction, whole}
-use Rattle.exact.specs.Value.{Value, none, quotient}
+use Rattle.exact.specs.Value.{Value, quotient}
 use Rattle.interval.specs.declared.enclosures.Enclosure.{Enclosure}
-use Rattle.interval.specs.declared.enclosures.Enclosure.TheVariants.{NoBounds, Bounds}
+use Rattle.interval.specs.declared.enclosures.Enclosure.TheVariants.{NoBounds}
 use Rattle.interval.specs.Rules.{neg, add, sub, mul, div, abs, max, chi}
 use Rattle.interval.specs.Meaning.{Holds, InRange}
 use Rattle.interval.proofs.OneEnd.{cond_if}
 use Rattle.interval.proofs.Laws.{kept_range, neg_follows, add_follows, sub_follows, mul_follows, div_follows, abs_follows, max_follows, chi_follows}
 use Rattle.family.specs.declared.cells.Cell.{Cell}
-use Rattle.family.specs.Cells.{exists, middle, InCell}
+use Rattle.family.specs.Cells.{exists, InCell}
 use Rattle.family.specs.Readings.{Temperatures, RowOf, reading_at, Allowed}
 use Rattle.family.specs.Meaning.{Lawful}
 use Rattle.family.proofs.Inside.{reading_range}
 use Rattle.codelist.specs.declared.lines.Line.{Line}
 use Rattle.codelist.specs.declared.lists.CodeList.{CodeList}
-use Rattle.codelist.specs.declared.curves.Lists.{Lists}
 use Rattle.codelist.specs.declared.tables.ListTable.{ListTable}
 use Rattle.codelist.specs.Lists.{lines_of}
 use Rattle.codelist.specs.Tables.{lists_of, list_at}
-use Rattle.codelist.specs.Evaluate.{entries}
-use Rattle.codelist.specs.Exact.{exactly, values}
+use Rattle.codelist.specs.Exact.{exactly}
 use Rattle.codelist.specs.Kinds.{over}
 use Rattle.codelist.specs.RunLaw.{Keeps, keeps_at, vouched_at}
 use Rattle.codelist.specs.Intervals.{pair_rules, pair_vouches}

@@ -3,7 +3,7 @@ use Rattle.std.specs.Prelude.{◌≡◌, ℕ, zero, suc, ◌<◌, true, List, []
 use Rattle.std.proofs.Common.{sym, ap, subst, ◌∙◌}
 use Rattle.std.proofs.lemmas.List.{get_or-take}
 use Rattle.exact.specs.Fraction.{Fraction, whole}
-use Rattle.exact.specs.Value.{Value, none, quotient}
+use Rattle.exact.specs.Value.{none, quotient}
 use Rattle.family.specs.declared.cells.Cell.{Cell}
 use Rattle.family.specs.Cells.{exists, middle, InCell}
 use Rattle.family.specs.Readings.{Temperatures, RowOf, reading_at, Allowed}

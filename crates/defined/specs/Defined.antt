@@ -1,5 +1,5 @@
 -- The kind that tells whether a line surely has a value.
-use Rattle.std.specs.Prelude.{◌≡◌, Bool, true, false, cond, ◌&&◌, List, ℕ, ◌-◌, length, get_or}
+use Rattle.std.specs.Prelude.{◌≡◌, Bool, true, false, cond, ◌&&◌, List, ◌-◌, length, get_or}
 use Rattle.exact.specs.Fraction.{Fraction}
 use Rattle.exact.specs.Value.{Value, none, some, each, both, negative, choice}
 use Rattle.family.specs.declared.cells.Cell.{Cell}

@@ -5,7 +5,7 @@ use borrow.Author.Differences.{ints}
 use Rattle.std.proofs.lemmas.Bool.{and_parts}
 use Rattle.exact.specs.Fraction.{Fraction, whole, in_units, minus}
 use Rattle.exact.proofs.Integers.{linear, ≤ℤ-mul}
-use Rattle.exact.proofs.Ring.{Ex, lit, ◌⊕◌, ◌⊗◌, ◌⊝◌, ⊖◌, ◌≐◌, ring2, ring6}
+use Rattle.exact.proofs.Ring.{lit, ◌⊕◌, ◌⊗◌, ◌⊝◌, ⊖◌, ◌≐◌, ring2, ring6}
 use Rattle.exact.proofs.Rounding.{floor_is}
 use Rattle.interval.specs.Rules.{limit, within}
 use Rattle.interval.specs.Meaning.{Between, InRange}

@@ -1,5 +1,5 @@
 -- A reading is the one that its ends make.
-use Rattle.std.proofs.Common.{◌≡◌, Bool, true, false, T, ℤ, Ok, Err, Result, sym, refl, subst}
+use Rattle.std.proofs.Common.{◌≡◌, Bool, true, false, T, ℤ, Ok, sym, refl, subst}
 use lib.Dec.{T_prop}
 use Rattle.family.specs.declared.readings.Reading.{Reading}
 use Rattle.family.specs.Limits.{believable}

@@ -1,14 +1,14 @@
 -- The numbers on the way to a height fit 64 bits, and the height fits 32.
-use Rattle.std.proofs.Common.{◌≡◌, ℕ, ◌*◌, ◌^◌, ◌<◌, ◌≤◌, true, ◌&&◌, ℤ, pos, negsuc, ◌+ℤ◌, ◌-ℤ◌, ◌*ℤ◌, neg_ℤ, nat_abs, ◌≤ℤ◌, ◌<ℤ◌, sym, refl, ap, ◌∙◌, subst, arith, w32, w64, SFits, to_z, of_z}
+use Rattle.std.proofs.Common.{◌≡◌, ◌*◌, ◌^◌, ◌≤◌, true, ◌&&◌, ℤ, pos, negsuc, ◌+ℤ◌, ◌-ℤ◌, ◌*ℤ◌, neg_ℤ, nat_abs, ◌≤ℤ◌, ◌<ℤ◌, sym, refl, ap, ◌∙◌, subst, arith, w32, w64, SFits, to_z, of_z}
 use lib.Signed.{le_z}
 use mir.Syntax.{Width}
 use borrow.Author.Differences.{ints}
 use Rattle.std.proofs.lemmas.Int.{to_z-of_z}
 use Rattle.std.proofs.lemmas.Bool.{and_parts}
-use Rattle.exact.specs.Fraction.{Fraction, whole, floor_of, ceiling_of, ◌≼◌}
+use Rattle.exact.specs.Fraction.{Fraction, whole, ◌≼◌}
 use Rattle.exact.specs.Rounding.{floor, ceiling}
-use Rattle.exact.proofs.Integers.{linear, product_size, ≤ℤ-mul}
-use Rattle.exact.proofs.Ring.{Ex, lit, ◌⊕◌, ◌⊗◌, ◌⊝◌, ◌≐◌, ring3, ring6}
+use Rattle.exact.proofs.Integers.{linear, ≤ℤ-mul}
+use Rattle.exact.proofs.Ring.{lit, ◌⊕◌, ◌⊗◌, ◌⊝◌, ◌≐◌, ring3, ring6}
 use Rattle.interval.specs.Rules.{limit, within}
 use Rattle.family.specs.Cells.{span}
 use Rattle.knots.specs.declared.knots.Knot.{Knot}

@@ -1,10 +1,9 @@
 -- The straight line through two knots: it goes through both, and rises or falls all the way.
-use Rattle.std.proofs.Common.{◌≡◌, ℕ, ◌<◌, ◌≤◌, max, ℤ, pos, ◌+ℤ◌, ◌-ℤ◌, ◌*ℤ◌, nat_abs, ◌≤ℤ◌, ◌<ℤ◌, sym, refl, ap, ◌∙◌, arith}
+use Rattle.std.proofs.Common.{◌≡◌, max, ℤ, pos, ◌+ℤ◌, ◌-ℤ◌, ◌*ℤ◌, nat_abs, ◌≤ℤ◌, ◌<ℤ◌, sym, refl, ap, ◌∙◌, arith}
 use borrow.Author.Differences.{ints}
 use Rattle.exact.specs.Fraction.{Fraction, whole, ◌≃◌, ◌≼◌}
 use Rattle.exact.proofs.Integers.{linear, product_nonneg, ≤ℤ-mul, ≤ℤ-mul-neg}
-use Rattle.exact.proofs.Ring.{Ex, lit, ◌⊕◌, ◌⊗◌, ◌⊝◌, ◌≐◌, ring4, ring5, ring8}
-use Rattle.exact.proofs.Fractions.{den_pos}
+use Rattle.exact.proofs.Ring.{lit, ◌⊕◌, ◌⊗◌, ◌⊝◌, ◌≐◌, ring4, ring5, ring8}
 use Rattle.knots.specs.declared.knots.Knot.{Knot}
 use Rattle.knots.specs.Values.{stretch, line}
 

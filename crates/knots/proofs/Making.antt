@@ -1,11 +1,11 @@
 -- What the checks of a table's maker give, and what a made table has.
-use Rattle.std.proofs.Common.{◌≡◌, ℕ, ◌+◌, ◌<◌, ◌≤◌, Bool, true, false, cond, ◌&&◌, T, leb, List, [], ◌∷◌, length, get_or, take, set, Some, None, sym, refl, ap, ◌∙◌, subst, arith, length-set, le-leb, leb-true}
+use Rattle.std.proofs.Common.{◌≡◌, ℕ, ◌+◌, ◌<◌, ◌≤◌, Bool, true, false, cond, ◌&&◌, T, leb, List, [], ◌∷◌, length, get_or, take, set, Some, None, sym, refl, ap, ◌∙◌, subst, le-leb, leb-true}
 use Rattle.std.proofs.lemmas.List.{take_more, take_more_set}
 use Rattle.std.proofs.lemmas.Bool.{and_parts}
 use Rattle.knots.specs.declared.knots.Knot.{Knot}
 use Rattle.knots.specs.declared.knots.TableRefusal.TheVariants.{Reading, Range, Knots}
 use Rattle.knots.specs.declared.tables.KnotTable.{KnotTable}
-use Rattle.knots.specs.Knots.{most_knots, all_ranged, ascend_from, ascending, lined, fault, valid}
+use Rattle.knots.specs.Knots.{most_knots, all_ranged, ascending, lined, fault, valid}
 use Rattle.knots.specs.Tables.{knots_of}
 
 pub lined_few : (ks : List Knot) → lined ks ≡ true → length ks ≤ most_knots

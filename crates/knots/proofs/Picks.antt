@@ -1,5 +1,5 @@
 -- The picked heights are the least and the greatest: they bound the height at every point of the cell, and are heights at points of it.
-use Rattle.std.proofs.Common.{◌≡◌, Bool, true, false, cond, ◌&&◌, List, [], ◌∷◌, ℤ, pos, ◌*ℤ◌, ◌≤ℤ◌, ◌<ℤ◌, sym, refl, ap, ◌∙◌, subst, arith}
+use Rattle.std.proofs.Common.{◌≡◌, Bool, true, cond, List, [], ◌∷◌, ℤ, pos, ◌*ℤ◌, ◌≤ℤ◌, ◌<ℤ◌, sym, ap, ◌∙◌, subst, arith}
 use lib.Signed.{le_z, lt_z}
 use borrow.Author.Differences.{ints}
 use Rattle.std.proofs.lemmas.Bool.{and_parts}
@@ -9,7 +9,7 @@ use Rattle.interval.proofs.OneEnd.{cond_if, cond_by, larger_by}
 use Rattle.family.specs.declared.cells.Cell.{Cell}
 use Rattle.family.specs.Cells.{InCell}
 use Rattle.knots.specs.declared.knots.Knot.{Knot}
-use Rattle.knots.specs.Knots.{ascend_from, ascending}
+use Rattle.knots.specs.Knots.{ascend_from}
 use Rattle.knots.specs.Values.{line, right_of, height_at}
 use Rattle.knots.specs.Extremes.{inside, pick_over, extreme, least, greatest, Taken, Extremes}
 use Rattle.knots.proofs.Lines.{line_at_right}

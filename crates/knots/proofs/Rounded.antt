@@ -1,12 +1,11 @@
 -- Rounding keeps the order, so the least height rounded down is the least of the rounded heights.
-use Rattle.std.proofs.Common.{◌≡◌, ℤ, pos, ◌+ℤ◌, ◌*ℤ◌, neg_ℤ, ◌≤ℤ◌, ◌<ℤ◌, sym, refl, subst, arith}
+use Rattle.std.proofs.Common.{◌≡◌, ℤ, pos, ◌+ℤ◌, ◌*ℤ◌, ◌≤ℤ◌, ◌<ℤ◌, refl, arith}
 use borrow.Author.Differences.{ints}
 use Rattle.std.specs.Int.{int_min, int_max}
 use Rattle.std.proofs.lemmas.Int.{clamps}
 use Rattle.exact.specs.Fraction.{Fraction, whole, negated, smaller, larger, floor_of, ceiling_of, ◌≼◌}
-use Rattle.exact.specs.Rounding.{floor, ceiling}
 use Rattle.exact.proofs.Integers.{linear, by_order, ≤ℤ-mul, <ℤ-mul, neg-*ℤ}
-use Rattle.exact.proofs.Ring.{Ex, lit, ◌⊕◌, ◌⊗◌, ◌≐◌, ring3}
+use Rattle.exact.proofs.Ring.{lit, ◌⊕◌, ◌⊗◌, ◌≐◌, ring3}
 use Rattle.exact.proofs.Fractions.{den_pos, ≺-≼, ≼_trans}
 use Rattle.exact.proofs.Rounding.{floor_is, ceiling_is}
 use Rattle.interval.proofs.OneEnd.{larger_by}

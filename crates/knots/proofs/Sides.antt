@@ -1,7 +1,7 @@
 -- What holds of the heights at a cell's ends and of the knots inside holds of the height at every point of the cell. `Side` is a bound from
 -- below or from above: on a straight line it passes from two points to every point between.
-use Rattle.std.proofs.Common.{◌≡◌, Bool, true, false, cond, ◌&&◌, List, [], ◌∷◌, ℤ, pos, ◌*ℤ◌, ◌≤ℤ◌, ◌<ℤ◌, sym, refl, ap, subst, arith}
-use lib.Signed.{le_z, lt_z}
+use Rattle.std.proofs.Common.{◌≡◌, Bool, true, false, cond, List, [], ◌∷◌, ℤ, pos, ◌*ℤ◌, ◌≤ℤ◌, ◌<ℤ◌, refl, subst, arith}
+use lib.Signed.{lt_z}
 use borrow.Author.Differences.{ints}
 use Rattle.std.proofs.lemmas.Bool.{and_parts}
 use Rattle.exact.specs.Fraction.{Fraction, whole, ◌≃◌, ◌≼◌}

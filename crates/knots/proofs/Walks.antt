@@ -1,11 +1,11 @@
 -- Walking along the knots of a table, as the code does.
-use Rattle.std.proofs.Common.{◌≡◌, ℕ, suc, ◌-◌, ◌≤◌, Bool, true, false, cond, ◌&&◌, List, [], ◌∷◌, length, get_or, take, drop, ℤ, pos, ◌≤ℤ◌, ◌<ℤ◌, sym, refl, ap, ◌∙◌, subst, arith}
+use Rattle.std.proofs.Common.{◌≡◌, ℕ, suc, ◌-◌, ◌≤◌, Bool, true, false, cond, List, [], ◌∷◌, length, get_or, take, drop, ℤ, ◌≤ℤ◌, ◌<ℤ◌, sym, refl, ap, ◌∙◌, subst, arith}
 use lib.Signed.{lt_z}
 use borrow.Author.Differences.{ints}
 use Rattle.std.specs.Int.{int_min, int_max}
 use Rattle.std.proofs.lemmas.List.{take_all}
 use Rattle.std.proofs.lemmas.Bool.{and_parts}
-use Rattle.exact.specs.Fraction.{Fraction, whole, smaller, larger, floor_of, ceiling_of}
+use Rattle.exact.specs.Fraction.{Fraction, whole, smaller, larger}
 use Rattle.family.specs.declared.cells.Cell.{Cell}
 use Rattle.knots.specs.declared.knots.Knot.{Knot}
 use Rattle.knots.specs.declared.extents.Extent.{Extent}

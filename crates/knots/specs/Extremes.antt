@@ -1,6 +1,6 @@
 -- The least and the greatest height of a table over a cell. A straight line has them at its ends, so they are found among the heights
 -- at the cell's ends and those of the knots inside.
-use Rattle.std.specs.Prelude.{Bool, cond, ◌&&◌, List, [], ◌∷◌, ℤ, int_le}
+use Rattle.std.specs.Prelude.{Bool, cond, ◌&&◌, List, [], ◌∷◌, int_le}
 use Rattle.exact.specs.Fraction.{Fraction, whole, smaller, larger, floor_of, ceiling_of, ◌≃◌, ◌≼◌}
 use Rattle.family.specs.declared.cells.Cell.{Cell}
 use Rattle.family.specs.Cells.{InCell}

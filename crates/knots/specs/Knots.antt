@@ -1,5 +1,5 @@
 -- Which knots may make a table, and why others are refused.
-use Rattle.std.specs.Prelude.{ℕ, Bool, true, false, cond, ◌&&◌, List, [], ◌∷◌, length, ℤ, neg_ℤ, Some, None, Option, int_le, int_lt, nat_le}
+use Rattle.std.specs.Prelude.{ℕ, Bool, true, cond, ◌&&◌, List, [], ◌∷◌, length, neg_ℤ, Some, None, Option, int_le, int_lt, nat_le}
 use Rattle.interval.specs.Rules.{within}
 use Rattle.family.specs.Cells.{span}
 use Rattle.knots.specs.declared.knots.Knot.{Knot}

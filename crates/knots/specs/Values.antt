@@ -1,5 +1,5 @@
 -- The exact height of a table at any point, in counts: the straight line between knots, the nearest end's y outside.
-use Rattle.std.specs.Prelude.{ℕ, ◌*◌, ◌<◌, max, Bool, cond, List, [], ◌∷◌, ℤ, pos, ◌+ℤ◌, ◌-ℤ◌, ◌*ℤ◌, int_le, unsigned_abs}
+use Rattle.std.specs.Prelude.{ℕ, ◌*◌, max, Bool, cond, List, [], ◌∷◌, ℤ, pos, ◌+ℤ◌, ◌-ℤ◌, ◌*ℤ◌, int_le, unsigned_abs}
 use Rattle.std.proofs.Common.{mul-pos, arith}
 use Rattle.exact.specs.Fraction.{Fraction, whole}
 use Rattle.knots.specs.declared.knots.Knot.{Knot}

@@ -6,11 +6,11 @@ use Rattle.std.specs.Int.{int_min, int_max}
 use Rattle.exact.specs.Fraction.{Fraction, whole, in_units, plus, minus, times, ◌≃◌}
 use Rattle.exact.specs.Value.{Value, none, some, both}
 use Rattle.exact.proofs.Fractions.{≃_sym, ≃_trans, plus-≃}
-use Rattle.exact.proofs.FractionRing.{Fx, ◌⊞◌, ◌⊟◌, ◌≑◌, fring2}
+use Rattle.exact.proofs.FractionRing.{◌⊞◌, ◌⊟◌, ◌≑◌, fring2}
 use Rattle.interval.specs.declared.enclosures.Enclosure.{Enclosure}
 use Rattle.interval.specs.declared.enclosures.Enclosure.TheVariants.{NoBounds, Bounds}
-use Rattle.interval.specs.Rules.{within, kept, add, sub, mul, common, held}
-use Rattle.interval.specs.Meaning.{Between, Holds, InRange}
+use Rattle.interval.specs.Rules.{within, kept, add, mul, common, held}
+use Rattle.interval.specs.Meaning.{Holds, InRange}
 use Rattle.interval.proofs.OneEnd.{max_by, min_by, Low, High, ends_ordered, between_≃}
 use Rattle.interval.proofs.Laws.{kept_holds, add_follows, common_follows}
 use Rattle.family.specs.declared.cells.Cell.{Cell}

@@ -1,31 +1,29 @@
 -- The law of each rule on entries with slopes, and that the answer holds the value at every point of the cell.
-use Rattle.std.proofs.Common.{◌≡◌, Bool, true, false, cond, ℤ, pos, negsuc, ◌*ℤ◌, neg_ℤ, ◌≤ℤ◌, ◌<ℤ◌, Some, None, Option, sym, refl, ap, ◌∙◌, subst, arith}
+use Rattle.std.proofs.Common.{◌≡◌, Bool, true, false, cond, ℤ, pos, ◌<ℤ◌, Some, None, Option, sym, refl, subst, arith}
 use lib.Signed.{lt_z}
 use borrow.Author.Differences.{ints}
 use Rattle.exact.specs.Fraction.{Fraction, whole, in_units, plus, minus, negated, times, absolute, larger, ◌≃◌}
 use Rattle.exact.specs.Value.{Value, none, some, each, both, divided, quotient, negative, choice}
-use Rattle.exact.proofs.Ring.{Ex, lit, ◌⊕◌, ◌⊗◌, ⊖◌, ◌≐◌, ring2, ring4}
-use Rattle.exact.proofs.Fractions.{≃_sym, ≃_trans, plus-≃}
-use Rattle.exact.proofs.FractionRing.{Fx, ◌⊞◌, ◌⊟◌, ◌≑◌, fring2}
+use Rattle.exact.proofs.Ring.{lit, ◌⊕◌, ◌⊗◌, ⊖◌, ◌≐◌, ring2, ring4}
 use Rattle.interval.specs.declared.enclosures.Enclosure.{Enclosure}
 use Rattle.interval.specs.declared.enclosures.Enclosure.TheVariants.{NoBounds, Bounds}
 use Rattle.interval.specs.declared.enclosures.Branch.{Branch}
 use Rattle.interval.specs.declared.enclosures.Branch.TheVariants.{First, Second, Both, Neither}
-use Rattle.interval.specs.Rules.{neg, add, sub, mul, div, abs, max, common, branch, held, chi}
+use Rattle.interval.specs.Rules.{neg, add, sub, div, branch}
 use Rattle.interval.specs.Meaning.{Holds, Chooses}
-use Rattle.interval.proofs.OneEnd.{cond_if, cond_by, low_pos, high_neg, between_≃}
-use Rattle.interval.proofs.Laws.{kept_holds, common_follows}
+use Rattle.interval.proofs.OneEnd.{cond_by, low_pos, high_neg}
+use Rattle.interval.proofs.Laws.{kept_holds}
 use Rattle.family.specs.declared.cells.Cell.{Cell}
 use Rattle.family.specs.declared.readings.Reading.{Reading}
 use Rattle.family.specs.Cells.{exists, middle, InCell}
 use Rattle.family.specs.Readings.{reading_pair, Allows}
 use Rattle.family.proofs.Inside.{units_between, middle-inside}
 use Rattle.slope.specs.declared.entries.Slope.{Slope}
-use Rattle.slope.specs.Rules.{at, x_slope, constant_slope, reading_slope, neg_slope, add_slope, sub_slope, mul_slope, div_slope, max_slope, abs_slope, slope_by, chosen_slope, chi_slope, reach, joined, answer_of}
+use Rattle.slope.specs.Rules.{at, x_slope, constant_slope, reading_slope, neg_slope, add_slope, sub_slope, mul_slope, div_slope, max_slope, abs_slope, slope_by, chi_slope}
 use Rattle.slope.specs.Meaning.{gap, Slopes, Sloped, Vouches, Law1, Law2, Law3, Follows}
 use Rattle.slope.proofs.Holding.{neg_holds, add_holds, sub_holds, mul_holds, div_holds, abs_holds, max_holds, chi_holds}
-use Rattle.slope.proofs.Mean.{NonZero, divided_by}
-use Rattle.slope.proofs.Steps.{Fits, slope_of, neg_has, add_has, sub_has, mul_has, div_has, bent_has, larger_has}
+use Rattle.slope.proofs.Mean.{divided_by}
+use Rattle.slope.proofs.Steps.{neg_has, add_has, sub_has, mul_has, div_has, bent_has, larger_has}
 
 -- ---- only fractions are left to show
 step1 : (op : Fraction → Fraction) (δ : Fraction) (i : Slope) (S : Enclosure)

@@ -5,9 +5,9 @@ use borrow.Author.Differences.{ints}
 use Rattle.exact.specs.Fraction.{Fraction, ◌≃◌, ◌≼◌, ◌≺◌, plus, minus, negated, times, absolute, larger}
 use Rattle.exact.specs.Value.{Value, none, some, over, divided}
 use Rattle.exact.proofs.Integers.{linear, product_pos, product_nonneg, ≤ℤ-mul, ≤ℤ_cancel, ≡_cancel, *ℤ-neg, neg-*ℤ}
-use Rattle.exact.proofs.Ring.{Ex, lit, ◌⊕◌, ◌⊗◌, ⊖◌, ◌≐◌, ring2, ring3, ring4, ring5, zero_by}
+use Rattle.exact.proofs.Ring.{lit, ◌⊕◌, ◌⊗◌, ⊖◌, ◌≐◌, ring2, ring3, ring4, ring5, zero_by}
 use Rattle.exact.proofs.Fractions.{den_pos, ≃_sym, ≃_trans, plus-≃, minus-≃, times-≃, negated-≃, ≼-≃, ≺-≼}
-use Rattle.exact.proofs.FractionRing.{Fx, ◌⊞◌, ◌⊟◌, ◌⊠◌, opp, ◌≑◌, fring2, fring3, fring4, fring5}
+use Rattle.exact.proofs.FractionRing.{◌⊞◌, ◌⊟◌, ◌⊠◌, opp, ◌≑◌, fring2, fring3, fring4, fring5}
 use Rattle.interval.specs.Meaning.{Between}
 use Rattle.interval.proofs.OneEnd.{absolute_by, larger_by, low_≼, high_≼}
 

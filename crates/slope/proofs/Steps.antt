@@ -1,5 +1,5 @@
 -- A slope as a value that the slope's pair holds, so that the rules on enclosures carry over; and each rule on two fractions.
-use Rattle.std.proofs.Common.{◌≡◌, Bool, true, false, cond, ◌&&◌, ℤ, pos, ◌*ℤ◌, ◌≤ℤ◌, ◌<ℤ◌, sym, refl, arith}
+use Rattle.std.proofs.Common.{◌≡◌, true, cond, ◌&&◌, ℤ, pos, ◌*ℤ◌, ◌≤ℤ◌, ◌<ℤ◌, arith}
 use lib.Signed.{lt_z, le_z}
 use borrow.Author.Differences.{ints}
 use Rattle.std.specs.Int.{int_min, int_max}

@@ -1,5 +1,5 @@
 -- What an entry with a slope says of exact values at a point and at the middle, and the law of a rule.
-use Rattle.std.specs.Prelude.{◌≡◌, ℤ}
+use Rattle.std.specs.Prelude.{◌≡◌}
 use Rattle.exact.specs.Fraction.{Fraction, whole, in_units, minus, times, ◌≃◌}
 use Rattle.exact.specs.Value.{Value, none, some}
 use Rattle.interval.specs.declared.enclosures.Enclosure.{Enclosure}

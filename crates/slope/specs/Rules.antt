@@ -1,6 +1,6 @@
 -- The rules that compute with slopes: v over the cell, u at its middle, s the slope. Every part, and every result on the way, follows
 -- the rules on enclosures.
-use Rattle.std.specs.Prelude.{Bool, cond, ℤ, pos, Some, None, Option, int_le, int_lt}
+use Rattle.std.specs.Prelude.{cond, ℤ, pos, Option, int_le, int_lt}
 use Rattle.interval.specs.declared.enclosures.Enclosure.{Enclosure}
 use Rattle.interval.specs.declared.enclosures.Enclosure.TheVariants.{NoBounds, Bounds}
 use Rattle.interval.specs.declared.enclosures.Branch.{Branch}

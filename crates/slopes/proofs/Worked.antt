@@ -1,5 +1,5 @@
 -- (x − 2)(x + 2) over [1000, 2000] by slopes, by computing on the definitions.
-use Rattle.std.proofs.Common.{◌≡◌, List, [], ◌∷◌, ℤ, pos, negsuc, refl}
+use Rattle.std.proofs.Common.{◌≡◌, List, [], ◌∷◌, pos, negsuc, refl}
 use Rattle.interval.specs.declared.enclosures.Enclosure.TheVariants.{Bounds}
 use Rattle.interval.specs.Rules.{add, sub, mul, common}
 use Rattle.family.specs.declared.cells.Cell.{Cell}

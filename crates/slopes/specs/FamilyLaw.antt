@@ -1,10 +1,9 @@
 -- The family of lists with slopes is lawful; its entries over the cell are those of the plain lists, and its answer has bounds wherever
 -- theirs has.
-use Rattle.std.specs.Prelude.{◌≡◌, ℕ, ◌-◌, Bool, true, cond, List, length, get_or, pos, Some, None, Option, refl}
+use Rattle.std.specs.Prelude.{◌≡◌, ◌-◌, Bool, true, cond, List, length, Some, None, Option, refl}
 use Rattle.std.proofs.Common.{sym, ap, subst, arith}
 use Rattle.std.proofs.lemmas.Int.{ints}
 use Rattle.exact.specs.Fraction.{Fraction, whole}
-use Rattle.exact.specs.Value.{none, quotient}
 use Rattle.interval.specs.declared.enclosures.Enclosure.{Enclosure}
 use Rattle.interval.specs.declared.enclosures.Enclosure.TheVariants.{NoBounds}
 use Rattle.interval.specs.Rules.{neg, add, sub, mul, div, abs, max, chi}
@@ -16,22 +15,20 @@ use Rattle.family.specs.Readings.{Temperatures, RowOf, reading_at, Allowed}
 use Rattle.family.specs.Meaning.{Lawful}
 use Rattle.family.proofs.Inside.{ascends, some_temperature, some_allowed}
 use Rattle.slope.specs.declared.entries.Slope.{Slope}
-use Rattle.slope.specs.Rules.{div_slope, answer_of}
+use Rattle.slope.specs.Rules.{div_slope}
 use Rattle.slope.specs.Meaning.{gap, Vouches, HasBounds}
 use Rattle.slope.proofs.Answering.{answer_holds, answer_bounds, answer_range}
 use Rattle.codelist.specs.declared.lines.Line.{Line}
 use Rattle.codelist.specs.declared.lists.CodeList.{CodeList}
 use Rattle.codelist.specs.Lists.{lines_of}
 use Rattle.codelist.specs.Tables.{list_at}
-use Rattle.codelist.specs.Evaluate.{Operations, entries}
-use Rattle.codelist.specs.Exact.{values, value_of}
+use Rattle.codelist.specs.Exact.{value_of}
 use Rattle.codelist.specs.Kinds.{over}
 use Rattle.codelist.specs.RunLaw.{Keeps, keeps_at, vouched_at}
 use Rattle.codelist.specs.Intervals.{pair_rules}
 use Rattle.codelist.specs.Plain.{enclosure_of, value_by}
 use Rattle.codelist.specs.PlainLaw.{lines_range, table_few, no_list}
-use Rattle.slopes.specs.declared.lists.SlopeLists.{SlopeLists}
-use Rattle.slopes.specs.Kind.{blank_slope, slope_rules, slope_vouches}
+use Rattle.slopes.specs.Kind.{slope_rules, slope_vouches}
 use Rattle.slopes.specs.KindLaws.{slopes_law, slopes_division}
 use Rattle.slopes.specs.Family.{last_slope, slope_enclosure, slope_answer_by, slope_count, slope_value, slope_answer}
 

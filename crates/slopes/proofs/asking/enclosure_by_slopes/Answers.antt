@@ -1,5 +1,4 @@
-use Rattle.std.proofs.Common.{◌≡◌, sym, ap, ◌∙◌, subst}
-use Rattle.interval.specs.declared.enclosures.Enclosure.{Enclosure}
+use Rattle.std.proofs.Common.{sym, ap, ◌∙◌, subst}
 use Rattle.slope.specs.declared.entries.Slope.{Slope}
 use Rattle.slope.specs.Rules.{answer_of}
 use Rattle.slope.specs.Meaning.{HasBounds}

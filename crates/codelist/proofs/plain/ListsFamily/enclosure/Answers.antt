@@ -1,4 +1,4 @@
-use Rattle.std.proofs.Common.{◌≡◌, cond, ◌∙◌}
+use Rattle.std.proofs.Common.{cond, ◌∙◌}
 use Rattle.interval.specs.declared.enclosures.Enclosure.TheVariants.{NoBounds}
 use Rattle.codelist.specs.Plain.{answer_by}
 use Rattle.codelist.proofs.LastLine.{last_entry}

@@ -1,4 +1,4 @@
-use Rattle.std.proofs.Common.{◌≡◌, ℕ, ◌<◌, ◌≤◌, ltb, length, take, Some, sym, ap, ◌∙◌, arith, lt-ltb}
+use Rattle.std.proofs.Common.{◌≡◌, ◌<◌, length, take, Some, sym, arith, lt-ltb}
 use Rattle.std.proofs.lemmas.List.{length-take-le, take_more_set}
 use Rattle.codelist.proofs.tables.ListTable.push.Goals as goal
 

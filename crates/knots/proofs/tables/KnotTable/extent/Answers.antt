@@ -1,14 +1,14 @@
-use Rattle.std.proofs.Common.{◌≡◌, ◌+◌, Bool, true, false, cond, List, ◌∷◌, length, get_or, drop, ℤ, pos, sym, refl, ap, ◌∙◌, subst, w32, SFits, rules}
+use Rattle.std.proofs.Common.{◌≡◌, ◌+◌, Bool, true, false, cond, get_or, drop, ℤ, pos, sym, ap, ◌∙◌, w32, SFits, rules}
 use Rattle.std.specs.Int.{int_min, int_max}
 use Rattle.std.proofs.lemmas.Int.{to_z-of_z}
 use Rattle.std.proofs.lemmas.List.{at_drop_more, at_drop_all}
-use Rattle.exact.specs.Fraction.{Fraction, whole, smaller, larger}
+use Rattle.exact.specs.Fraction.{whole, smaller, larger}
 use Rattle.family.proofs.Inside.{ascends}
 use Rattle.knots.specs.declared.knots.Knot.{Knot}
 use Rattle.knots.specs.declared.extents.Extent.{Extent}
 use Rattle.knots.specs.Tables.{knots_of}
 use Rattle.knots.specs.Values.{height_at}
-use Rattle.knots.specs.Extremes.{inside, rounded, extent_of}
+use Rattle.knots.specs.Extremes.{inside, rounded}
 use Rattle.knots.proofs.Walks.{joined, joined_over, joined_is, joined_over_lem, has_extremes}
 use Rattle.knots.proofs.tables.KnotTable.extent.Goals as goal
 use Rattle.knots.proofs.tables.KnotTable.extent.Goals.{then-is_inside, else-is_inside}

@@ -1,4 +1,4 @@
-use Rattle.std.proofs.Common.{◌≡◌, ◌+◌, ◌≤◌, Bool, true, cond, List, ◌∷◌, length, get_or, drop, ℤ, pos, sym, refl, ap, ◌∙◌, subst, arith, w32, SFits, to_z, of_z, ltb-false, ltb-true}
+use Rattle.std.proofs.Common.{◌≡◌, ◌+◌, ◌≤◌, List, ◌∷◌, length, get_or, drop, ℤ, pos, sym, ap, ◌∙◌, subst, arith, w32, SFits, to_z, of_z, ltb-false, ltb-true}
 use Rattle.std.proofs.lemmas.List.{at_drop_more, at_drop_all}
 use Rattle.std.proofs.lemmas.Int.{to_z-of_z}
 use Rattle.exact.specs.Fraction.{Fraction, whole}
@@ -6,7 +6,7 @@ use Rattle.knots.specs.declared.knots.Knot.{Knot}
 use Rattle.knots.specs.declared.extents.Extent.{Extent}
 use Rattle.knots.specs.declared.tables.KnotTable.{KnotTable}
 use Rattle.knots.specs.Tables.{knots_of}
-use Rattle.knots.specs.Values.{up_to, line, right_of, height_at}
+use Rattle.knots.specs.Values.{line, right_of, height_at}
 use Rattle.knots.specs.Extremes.{rounded}
 use Rattle.knots.proofs.Making.{table_sound}
 use Rattle.knots.proofs.Walks.{behind, first_and_rest, Walking, walking, at_first, left_ranged, right_ranged, reached, on_segment, onward}

@@ -1,4 +1,4 @@
-use Rattle.std.proofs.Common.{◌≡◌, ℕ, take, ap}
+use Rattle.std.proofs.Common.{ℕ, take, ap}
 use native.Mathlib.Nat.{sub-zero}
 use Rattle.knots.proofs.tables.KnotTable.knots.Goals as goal
 

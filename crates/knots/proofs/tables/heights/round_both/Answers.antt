@@ -1,4 +1,4 @@
-use Rattle.std.proofs.Common.{◌≡◌, ℤ, pos, unwrap_or, sym, refl, ap, ◌∙◌, subst, arith, w32, w64, SFits}
+use Rattle.std.proofs.Common.{◌≡◌, pos, unwrap_or, sym, ap, ◌∙◌, subst, arith, w32, w64, SFits}
 use borrow.Author.Differences.{ints}
 use Rattle.std.proofs.lemmas.Int.{to_z-of_z}
 use Rattle.exact.specs.Rounding.{floor, ceiling}

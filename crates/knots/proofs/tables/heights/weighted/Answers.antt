@@ -1,4 +1,4 @@
-use Rattle.std.proofs.Common.{◌*◌, ◌^◌, ◌≤◌, ◌*ℤ◌, nat_abs, arith, w32, w64, SFits}
+use Rattle.std.proofs.Common.{◌^◌, ◌*ℤ◌, arith, w64, SFits}
 use borrow.Author.Differences.{ints}
 use Rattle.std.proofs.lemmas.Int.{to_z-of_z}
 use Rattle.exact.proofs.Integers.{product_size}

@@ -1,4 +1,4 @@
-use Rattle.std.proofs.Common.{◌≡◌, ◌+◌, ◌≤◌, Bool, ◌&&◌, length, get_or, drop, pos, sym, ap, ◌∙◌, arith, ltb-false}
+use Rattle.std.proofs.Common.{◌+◌, ◌≤◌, Bool, ◌&&◌, length, get_or, drop, pos, sym, ap, ◌∙◌, arith, ltb-false}
 use Rattle.std.proofs.lemmas.List.{at_drop_more, at_drop_all}
 use Rattle.knots.specs.declared.knots.Knot.{Knot}
 use Rattle.knots.specs.Knots.{ascending, ascend_from}

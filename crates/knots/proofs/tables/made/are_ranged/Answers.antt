@@ -1,4 +1,4 @@
-use Rattle.std.proofs.Common.{◌≡◌, ◌+◌, Bool, ◌&&◌, get_or, drop, pos, sym, ap, ◌∙◌}
+use Rattle.std.proofs.Common.{◌+◌, Bool, ◌&&◌, drop, pos, sym, ap, ◌∙◌}
 use Rattle.std.proofs.lemmas.List.{at_drop_more, at_drop_all}
 use Rattle.knots.specs.declared.knots.Knot.{Knot}
 use Rattle.knots.specs.Knots.{all_ranged}

@@ -1,4 +1,3 @@
-use Rattle.std.proofs.Common.{◌≡◌}
 use Rattle.exact.specs.Fraction.{absolute}
 use Rattle.exact.specs.Value.{each}
 use Rattle.slope.specs.Rules.{abs_slope}

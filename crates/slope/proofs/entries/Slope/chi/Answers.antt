@@ -1,4 +1,3 @@
-use Rattle.std.proofs.Common.{◌≡◌}
 use Rattle.exact.specs.Value.{choice}
 use Rattle.slope.specs.Rules.{chi_slope}
 use Rattle.slope.specs.Meaning.{Law3}

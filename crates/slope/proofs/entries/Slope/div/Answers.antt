@@ -1,4 +1,4 @@
-use Rattle.std.proofs.Common.{◌≡◌, ◌∙◌}
+use Rattle.std.proofs.Common.{◌∙◌}
 use Rattle.exact.specs.Value.{quotient}
 use Rattle.interval.specs.Rules.{sub, mul, div}
 use Rattle.slope.specs.Rules.{div_slope}

@@ -1,4 +1,3 @@
-use Rattle.std.proofs.Common.{◌≡◌}
 use Rattle.exact.specs.Fraction.{larger}
 use Rattle.exact.specs.Value.{both}
 use Rattle.slope.specs.Rules.{max_slope}

@@ -1,4 +1,4 @@
-use Rattle.std.proofs.Common.{◌≡◌, ◌∙◌}
+use Rattle.std.proofs.Common.{◌∙◌}
 use Rattle.exact.specs.Fraction.{times}
 use Rattle.exact.specs.Value.{both}
 use Rattle.interval.specs.Rules.{add}

@@ -1,4 +1,4 @@
-use Rattle.std.proofs.Common.{◌≡◌, cond, ◌∙◌}
+use Rattle.std.proofs.Common.{cond, ◌∙◌}
 use Rattle.interval.specs.declared.enclosures.Enclosure.TheVariants.{NoBounds}
 use Rattle.slopes.specs.Family.{slope_answer_by}
 use Rattle.slopes.proofs.asking.SlopeListsFamily.enclosure.Goals as goal

@@ -1,4 +1,4 @@
-use Rattle.std.proofs.Common.{◌≡◌, cond, ◌∙◌}
+use Rattle.std.proofs.Common.{cond, ◌∙◌}
 use Rattle.interval.specs.declared.enclosures.Enclosure.TheVariants.{NoBounds}
 use Rattle.family.specs.Items.{answer_by}
 use Rattle.tables.specs.Family.{table_curve}
