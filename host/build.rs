@@ -5,7 +5,7 @@ use std::path::PathBuf;
 
 fn main() {
     let here = PathBuf::from(env::var("CARGO_MANIFEST_DIR").expect("cargo sets this"));
-    let given = env::var("ZEFRWYLL_LIB_DIR").unwrap_or_else(|_| "../target/staticlib".to_string());
+    let given = env::var("ZEFRWYLL_LIB_DIR").unwrap_or_else(|_| "../crates/hostcall/out".to_string());
     // A relative folder counts from this package.
     let folder = here.join(given);
     let archive = folder.join("libhostcall.a");

@@ -1,23 +1,19 @@
 -- What a record that is found has, and where a refusal lies.
-use Rattle.std.proofs.Common.{◌≡◌, ℕ, zero, suc, ◌+◌, ◌-◌, ◌*◌, ◌<◌, ◌≤◌, Bool, true, false, cond, eqb, ltb, leb, List, [], ◌∷◌, ◌++◌, length, get_or, take, drop, Some, None, Ok, Err, Option, Result, sym, refl, ap, ◌∙◌, subst, arith, ltb-true, leb-true}
+use Rattle.std.proofs.Common.{◌≡◌, ℕ, zero, suc, ◌+◌, ◌-◌, ◌*◌, ◌<◌, ◌≤◌, Bool, true, false, cond, ltb, leb, List, [], ◌∷◌, ◌++◌, length, get_or, take, drop, Some, None, Ok, Err, Option, Result, refl, ap, ◌∙◌, arith, ltb-true}
 use Rattle.std.proofs.lemmas.List.{length-drop, length-take-le, get_or-drop, get_or-take}
 use Rattle.codelist.specs.declared.lines.Line.{Line as CodeLine}
-use Rattle.codelist.specs.declared.lines.LineRefusal.{LineRefusal}
-use Rattle.codelist.specs.Lines.{fault as lineFault}
-use Rattle.knots.specs.declared.knots.Knot.{Knot}
 use Rattle.knots.specs.declared.knots.TableRefusal.TheVariants.{Reading as BadReading, Range as BadRange, Knots as BadKnots}
 use Rattle.knots.specs.Knots.{all_ranged, lined, fault}
 use Rattle.book.specs.declared.ops.Op.{Op}
 use Rattle.book.specs.declared.ops.Op.TheVariants.{X, C, R, Neg, Abs, Add, Sub, Mul, Div, Max, Chi, Curve, End, Table}
-use Rattle.book.specs.declared.ops.Command.{Command}
 use Rattle.book.specs.declared.refusals.Fault.{Fault}
 use Rattle.book.specs.declared.refusals.Fault.TheVariants.{Misplaced, Operand, Range, TooMany, Knots}
 use Rattle.book.specs.declared.refusals.Layer.{Layer}
 use Rattle.book.specs.declared.refusals.Layer.TheVariants.{Record as RecordLayer}
 use Rattle.book.specs.declared.refusals.Refusal.{Refusal}
-use Rattle.book.specs.Ops.{op_of, layer_of, operand_bytes, command_of, command_at}
+use Rattle.book.specs.Ops.{op_of, layer_of, operand_bytes, command_of}
 use Rattle.book.specs.Lines.{Inside, a_line, closes, stops, inside, refused, go_on, lines_from}
-use Rattle.book.specs.Records.{Said, a_curve, a_table, Entry, size_of, Found, found, stopped, tag_of, table_body, body_reading, body_knots, table_fault, curve_by, table_by, table_found, outside_by, outside_if, outside_of, record_at}
+use Rattle.book.specs.Records.{Said, a_curve, a_table, Entry, size_of, Found, found, stopped, tag_of, table_body, body_reading, body_knots, curve_by, table_by, table_found, outside_by, outside_if, outside_of, record_at}
 
 -- ---- lines: END, and a refusal, lie in what is left of the book
 abbrev pub LinesSay : ℕ → ℕ → Result (List CodeLine × ℕ) Refusal → Type 0

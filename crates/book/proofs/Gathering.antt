@@ -1,6 +1,5 @@
 -- What the loop of a load keeps: what is gathered so far and what is left of the book make up the whole book.
-use Rattle.std.proofs.Common.{◌≡◌, ℕ, suc, ◌+◌, ◌-◌, ◌*◌, ◌<◌, ◌≤◌, Bool, true, false, cond, ltb, List, [], ◌∷◌, ◌++◌, map, length, get_or, drop, Some, None, Ok, Err, Option, Result, sym, refl, ap, ◌∙◌, subst, append_assoc, append-nil, arith, length-append, ltb-false, ltb-true}
-use Rattle.std.specs.Option.{option_map}
+use Rattle.std.proofs.Common.{◌≡◌, ℕ, ◌+◌, ◌*◌, ◌<◌, ◌≤◌, Bool, true, false, cond, ltb, List, [], ◌++◌, map, length, get_or, drop, Some, None, Ok, Err, Option, Result, sym, refl, ap, ◌∙◌, subst, append_assoc, arith, ltb-false, ltb-true}
 use Rattle.std.proofs.lemmas.List.{length-drop, drop-drop}
 use Rattle.codelist.specs.declared.lines.Line.{Line}
 use Rattle.knots.specs.declared.knots.Knot.{Knot}
@@ -10,12 +9,12 @@ use Rattle.book.specs.declared.refusals.Layer.TheVariants.{Book as BookLayer}
 use Rattle.book.specs.declared.refusals.Refusal.{Refusal}
 use Rattle.book.specs.Lines.{refused, lines_from}
 use Rattle.book.specs.Records.{Said, a_curve, a_table, Entry, size_of, Found, found, stopped, body_reading, body_knots, record_at}
-use Rattle.book.specs.Books.{most_bytes, curves_after, tables_after, before, read_book}
-use Rattle.book.specs.Told.{Told, curve_told, table_told, refusal_told, entry_by, found_told, Place, start, found_at, place_after, rule_told}
+use Rattle.book.specs.Books.{most_bytes, before, read_book}
+use Rattle.book.specs.Told.{curve_told, table_told, entry_by, Place, start, found_at, rule_told}
 use Rattle.book.specs.Loading.{curve_of, table_of, curves_in, tables_in}
 use Rattle.book.proofs.Found.{Meant, EntrySays, FoundSays, record_says}
 use Rattle.book.proofs.Filling.{map-append}
-use Rattle.book.proofs.Walking.{records_at, on_found, records_at_lem, size_positive}
+use Rattle.book.proofs.Walking.{records_at}
 
 -- the curves and tables with those gathered before
 abbrev pub Lot : Type 0
@@ -28,7 +27,7 @@ gathered cs ts (Err r) = Err r
 joined : {A : Type 0} (cs : List (Option A)) (xs ys : List A) → cs ++ map Some (xs ++ ys) ≡ (cs ++ map Some xs) ++ map Some ys
 joined {A} cs xs ys = ap (λ (zs : List (Option A)). cs ++ zs) (map-append Some xs ys) ∙ sym (append_assoc cs (map Some xs) (map Some ys))
 
-gather_step : (cs : List (Option (List Line))) (ts : List (Option (ℕ × List Knot))) (e : Entry) (r : Result (List Entry) Refusal)
+pub gather_step : (cs : List (Option (List Line))) (ts : List (Option (ℕ × List Knot))) (e : Entry) (r : Result (List Entry) Refusal)
     → gathered cs ts (before e r) ≡ gathered (cs ++ map Some (curve_of e.said)) (ts ++ map Some (table_of e.said)) r
 gather_step cs ts e (Ok es) = λ i. Ok (joined cs (curve_of e.said) (curves_in es) i, joined ts (table_of e.said) (tables_in es) i)
 gather_step cs ts e (Err r) = refl

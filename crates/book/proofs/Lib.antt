@@ -6,3 +6,4 @@ pub mod Nexts
 pub mod Filling
 pub mod Walking
 pub mod Gathering
+pub mod Loaded

@@ -1,14 +1,13 @@
 -- The reader's place after a record, from what it tells.
-use Rattle.std.proofs.Common.{◌≡◌, ℕ, suc, ◌+◌, ◌<◌, ◌≤◌, Bool, true, cond, ltb, List, length, drop, Some, None, Option, sym, refl, ap, ◌∙◌, subst, add-one, arith, le-ltb, lt-ltb}
-use Rattle.std.proofs.lemmas.List.{length-drop}
+use Rattle.std.proofs.Common.{◌≡◌, ℕ, ◌+◌, ◌<◌, ◌≤◌, cond, List, length, drop, Some, None, sym, refl, ap, ◌∙◌, subst, add-one, arith, le-ltb, lt-ltb}
 use Rattle.book.specs.declared.refusals.Fault.TheVariants.{TooLong}
 use Rattle.book.specs.declared.refusals.Layer.TheVariants.{Book as BookLayer}
 use Rattle.book.specs.declared.refusals.Refusal.{Refusal}
 use Rattle.book.specs.Lines.{refused}
-use Rattle.book.specs.Records.{Said, a_curve, a_table, Entry, size_by, size_of, Found, found, stopped, record_at}
-use Rattle.book.specs.Told.{Told, curve_told, table_told, refusal_told, entry_by, entry_told, found_told, size_told, Place, found_at, place_after, rule_told}
+use Rattle.book.specs.Records.{Said, a_curve, a_table, size_by, size_of, Found, found, stopped, record_at}
+use Rattle.book.specs.Told.{Told, curve_told, table_told, refusal_told, entry_by, found_told, size_told, Place, found_at, place_after}
 use Rattle.book.specs.Books.{most_bytes, curves_after, tables_after}
-use Rattle.book.proofs.Found.{Meant, EntrySays, FoundSays, record_says}
+use Rattle.book.proofs.Found.{Meant, FoundSays}
 
 pub record Next (p : Place) (bs : List ℕ) (f : Found) (n c t : ℕ) : Type 0 where
   pub size : n ≤ length bs

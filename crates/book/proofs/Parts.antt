@@ -1,5 +1,5 @@
 -- The parts of a record, as slices of the book.
-use Rattle.std.proofs.Common.{◌≡◌, ℕ, ◌+◌, ◌-◌, ◌*◌, ◌<◌, ◌≤◌, Bool, true, false, cond, ltb, leb, List, [], ◌∷◌, length, get_or, take, drop, is_some, Some, None, Ok, Err, Option, Result, sym, refl, ap, ◌∙◌, subst, add-zero, arith, ltb-true}
+use Rattle.std.proofs.Common.{◌≡◌, ℕ, ◌+◌, ◌-◌, ◌*◌, ◌<◌, ◌≤◌, Bool, true, false, cond, ltb, leb, List, [], length, get_or, take, drop, is_some, Some, None, Ok, Err, Option, Result, sym, refl, ap, ◌∙◌, add-zero, arith, ltb-true}
 use Rattle.std.proofs.lemmas.List.{drop-drop, length-drop, get_or-drop, length-take-le, get_or-take}
 use Rattle.codelist.specs.declared.lines.Line.{Line as CodeLine}
 use Rattle.knots.specs.declared.knots.Knot.{Knot}
@@ -15,9 +15,9 @@ use Rattle.book.specs.declared.refusals.Layer.TheVariants.{Book as BookLayer, Re
 use Rattle.book.specs.declared.refusals.Refusal.{Refusal}
 use Rattle.book.specs.Ops.{op_of, layer_of, operand_bytes, command_of, command_at}
 use Rattle.book.specs.Lines.{refused, lines_from}
-use Rattle.book.specs.Records.{most_of_a_kind, found, stopped, tag_of, table_body, body_reading, body_knots, table_fault, curve_by, table_by, table_found, outside_by, outside_if, outside_of, record_at}
+use Rattle.book.specs.Records.{stopped, tag_of, table_body, body_reading, body_knots, table_fault, curve_by, table_by, table_found, outside_by, outside_if, outside_of, record_at}
 use Rattle.book.proofs.Passing.{rest_is}
-use Rattle.book.specs.Told.{Told, curve_told, table_told, refusal_told, found_told}
+use Rattle.book.specs.Told.{curve_told, table_told, refusal_told, found_told}
 
 -- the tag behind the first byte
 pub tag_part : (book : List ℕ) (at : ℕ) → take (at + 9 - (at + 1)) (drop (at + 1) book) ≡ tag_of (drop at book)

@@ -1,5 +1,5 @@
 -- Passing over operands, and the steps of the reading at a place in the book.
-use Rattle.std.proofs.Common.{◌≡◌, ℕ, zero, suc, ◌+◌, ◌-◌, ◌<◌, ◌≤◌, cond, List, [], ◌∷◌, ◌++◌, length, get_or, take, drop, Ok, Err, Result, sym, refl, ap, ◌∙◌, subst, add-zero, arith}
+use Rattle.std.proofs.Common.{◌≡◌, ℕ, zero, suc, ◌+◌, ◌-◌, ◌<◌, ◌≤◌, List, [], ◌∷◌, ◌++◌, length, get_or, take, drop, Ok, Err, sym, ap, ◌∙◌, subst, add-zero, arith}
 use Rattle.std.proofs.lemmas.List.{take_all, length-drop, drop-drop, drop_more, drop_all}
 use Rattle.codelist.specs.declared.lines.Line.{Line}
 use Rattle.codelist.specs.declared.lists.CodeList.{CodeList}
@@ -10,7 +10,6 @@ use Rattle.book.specs.declared.refusals.Fault.{Fault}
 use Rattle.book.specs.declared.refusals.Fault.TheVariants.{CutShort}
 use Rattle.book.specs.declared.refusals.Layer.{Layer}
 use Rattle.book.specs.declared.refusals.Layer.TheVariants.{Record as RecordLayer}
-use Rattle.book.specs.declared.refusals.Refusal.{Refusal}
 use Rattle.book.specs.Reading.{Stepped}
 use Rattle.book.specs.Lines.{Inside, a_line, closes, stops, inside, refused, go_on, lines_from}
 

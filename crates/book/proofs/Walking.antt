@@ -1,18 +1,14 @@
 -- The reading of a book from a place on, one record after the other, and what is gathered of it.
-use Rattle.std.proofs.Common.{◌≡◌, ℕ, zero, suc, ◌+◌, ◌-◌, ◌<◌, ◌≤◌, Bool, true, false, cond, ltb, List, [], ◌∷◌, ◌++◌, map, length, get_or, drop, Some, None, Ok, Err, Option, Result, sym, refl, ap, ◌∙◌, subst, append_assoc, add-zero, arith, ltb-false, ltb-true, le-ltb, lt-ltb}
+use Rattle.std.proofs.Common.{◌≡◌, ℕ, zero, suc, ◌+◌, ◌-◌, ◌<◌, ◌≤◌, Bool, true, false, cond, ltb, List, [], ◌∷◌, length, drop, Some, None, Ok, Err, Option, Result, sym, refl, ap, ◌∙◌, add-zero, arith, ltb-false, ltb-true, le-ltb}
 use Rattle.std.proofs.lemmas.List.{length-drop, drop-drop, drop_more, drop_all}
-use Rattle.codelist.specs.declared.lines.Line.{Line}
-use Rattle.knots.specs.declared.knots.Knot.{Knot}
 use Rattle.book.specs.declared.refusals.Fault.TheVariants.{TooLong}
 use Rattle.book.specs.declared.refusals.Layer.TheVariants.{Book as BookLayer}
 use Rattle.book.specs.declared.refusals.Refusal.{Refusal}
 use Rattle.book.specs.Lines.{refused}
 use Rattle.book.specs.Records.{Said, a_curve, a_table, Entry, size_by, size_of, Found, found, stopped, record_at}
-use Rattle.book.specs.Books.{most_bytes, curves_after, tables_after, before, carry_on, records_from, read_book}
-use Rattle.book.specs.Told.{Place, start, found_at, place_after}
-use Rattle.book.specs.Loading.{curve_of, table_of, curves_in, tables_in}
-use Rattle.book.proofs.Found.{EntrySays, FoundSays, record_says}
-use Rattle.book.proofs.Filling.{map-append}
+use Rattle.book.specs.Books.{most_bytes, curves_after, tables_after, before, carry_on, records_from}
+use Rattle.book.specs.Told.{Place, found_at, place_after}
+use Rattle.book.proofs.Found.{FoundSays, record_says}
 
 pub pass_records : (c t n at : ℕ) (bs : List ℕ) → n ≤ length bs → records_from c t n at bs ≡ records_from c t 0 (at + n) (drop n bs)
 pass_records c t zero at bs h = ap (λ (m : ℕ). records_from c t 0 m bs) (sym (add-zero at))
@@ -29,7 +25,7 @@ on_found bs p None = Ok []
 on_found bs p (Some (stopped r)) = Err r
 on_found bs p (Some (found e)) = before e (records_at bs (place_after p (Some (found e))))
 
-size_positive : (e : Entry) → 1 ≤ size_of e
+pub size_positive : (e : Entry) → 1 ≤ size_of e
 size_positive e = by e.said
   where
     by : (k : Said) → 1 ≤ size_by k (length e.body)

@@ -7,8 +7,9 @@ use Rattle.bounded.specs.declared.lists.Bounded.{Bounded}
 use Rattle.bounded.specs.Lists.{items_of}
 use Rattle.family.specs.Readings.{Temperatures}
 use Rattle.codelist.specs.declared.lines.Line.{Line}
-use Rattle.codelist.specs.declared.lists.CodeList.{CodeList}
+use Rattle.codelist.specs.declared.tables.ListTable.{ListTable}
 use Rattle.codelist.specs.Lists.{lines_of}
+use Rattle.codelist.specs.Tables.{lists_of}
 use Rattle.codelist.specs.Exact.{value_of}
 use Rattle.codelist.specs.Plain.{plain_value}
 use Rattle.knots.specs.declared.knots.Knot.{Knot}
@@ -37,8 +38,8 @@ tables_in [] = []
 tables_in (e ∷ es) = table_of e.said ++ tables_in es
 
 -- the same of the lists and tables that code holds
-abbrev pub listing : Bounded CodeList 8 → List (Option (List Line))
-listing t = map (option_map lines_of) (items_of t)
+abbrev pub listing : ListTable → List (Option (List Line))
+listing t = map (option_map lines_of) (lists_of t)
 
 abbrev pub knotting : KnotTable → ℕ × List Knot
 knotting k = (k.reading, knots_of k)
@@ -61,7 +62,7 @@ load_answer (Ok es) = Ok tt
 load_answer (Err r) = Err r
 
 -- exactly the book's; or as they were
-abbrev pub ListsAfter : Result (List Entry) Refusal → Bounded CodeList 8 → Bounded CodeList 8 → Type 0
+abbrev pub ListsAfter : Result (List Entry) Refusal → ListTable → ListTable → Type 0
 ListsAfter (Ok es) old new = listing new ≡ map Some (curves_in es)
 ListsAfter (Err r) old new = new ≡ old
 
@@ -79,7 +80,7 @@ knots_value None t x = none
 knots_value (Some p) t x = some (in_units (minus (height_at p.1 x) (t p.0)))
 
 -- the families mean exactly the book's curves and tables
-abbrev pub ListsMean : Result (List Entry) Refusal → Bounded CodeList 8 → Type 0
+abbrev pub ListsMean : Result (List Entry) Refusal → ListTable → Type 0
 ListsMean (Ok es) new = (k : ℕ) (t : Temperatures) (x : Fraction) → plain_value (record { table = new }) k t x ≡ curve_value (slice_index_or (map Some (curves_in es)) k None) t x
 ListsMean (Err r) new = Unit {0}
 

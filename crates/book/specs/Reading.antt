@@ -8,7 +8,7 @@ use Rattle.codelist.specs.Lists.{lines_of}
 use Rattle.book.specs.declared.lines.Step.{Step}
 use Rattle.book.specs.declared.lines.Step.TheVariants.{Line as Longer, Close as Closed, Stop as Stopped}
 use Rattle.book.specs.declared.refusals.Refusal.{Refusal}
-use Rattle.book.specs.Lines.{Inside, a_line, closes, stops, inside}
+use Rattle.book.specs.Lines.{a_line, closes, stops, inside}
 
 -- the lines of a list that may not be begun yet
 abbrev pub lines_in : Option CodeList → List Line

@@ -2,7 +2,7 @@
 #![tactic(auto)]
 
 pub mod commands;
-mod knots;
+mod knot_bytes;
 pub mod lines;
 pub mod loading;
 pub mod ops;

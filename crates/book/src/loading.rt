@@ -1,13 +1,14 @@
 // Filling the families of lists and of tables from a book.
 ghost use Rattle.std.specs.Prelude.{◌≡◌, ◌+◌, ◌*◌, ◌<◌, ◌≤◌, [], ◌∷◌, ◌++◌, length, drop, Some, None, slice_index};
 ghost use Rattle.bounded.specs.Lists.{items_of};
+ghost use Rattle.codelist.specs.Tables.{lists_of};
 ghost use Rattle.knots.specs.Knots.{fault};
 ghost use Rattle.book.specs.Lines.{lines_from};
 ghost use Rattle.book.specs.Records.{body_reading, body_knots};
 ghost use Rattle.book.specs.Books.{read_book};
 ghost use Rattle.book.specs.Loading.{IsRead, lines_read, listing, tabling, load_answer, ListsAfter, TablesAfter, ListsMean, TablesMean};
 
-use crate::knots::read_table;
+use crate::knot_bytes::read_table;
 use crate::lines::read_lines;
 use crate::records::{Reader, Record};
 use crate::refusals::Refusal;
@@ -17,7 +18,7 @@ use tables::curves::TableList;
 // The curve at that offset, which was read before, joins the lists.
 fn add_curve(book: &[u8], offset: usize, curves: &mut ListTable)
     requires read { IsRead (lines_from [] 0 (offset + 9) (drop (offset + 9) book.now)) }
-    requires room { length (items_of curves.old) < 8 }
+    requires room { length (lists_of curves.old) < 8 }
     requires small { offset ≤ 8192 }
     ensures { listing curves.new ≡ listing curves.old ++ (Some (lines_read (lines_from [] 0 (offset + 9) (drop (offset + 9) book.now))) ∷ []) }
 {

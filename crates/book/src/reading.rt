@@ -4,7 +4,7 @@ ghost use Rattle.book.specs.Lines.{refused, lines_from};
 ghost use Rattle.book.specs.Records.{body_reading, body_knots, table_fault, curve_by, table_found, record_at};
 ghost use Rattle.book.specs.Told.{told_of, tells_of, found_told, place_of, found_at, place_after, next_told, rule_told, size_told, start};
 
-use crate::knots::read_table;
+use crate::knot_bytes::read_table;
 use crate::lines::read_lines;
 use crate::ops::{Command, Op};
 use crate::records::{Reader, Record};

@@ -196,9 +196,9 @@ pub extern "C" fn zefrwyll_host_table(
         Ok(table) => table,
         Err(number) => return number as i64,
     };
-    let bytes = table_bytes(table, Cell { lo, hi }, &row);
+    let answer = table_bytes(table, Cell { lo, hi }, &row);
     for k in 0..9 {
-        out[k] = bytes[k];
+        out[k] = answer[k];
     }
     0
 }

@@ -1,4 +1,4 @@
-use Rattle.std.proofs.Common.{◌≡◌, ℕ, ◌≤◌, length, get_or, sym, ap, ◌∙◌, arith, ltb-true}
+use Rattle.std.proofs.Common.{ℕ, ◌≤◌, length, ap, arith, ltb-true}
 use Rattle.std.proofs.lemmas.List.{get_or_past}
 use Rattle.book.specs.Reading.{lines_in}
 use Rattle.book.specs.Ops.{op_of}

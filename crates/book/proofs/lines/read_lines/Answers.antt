@@ -1,4 +1,4 @@
-use Rattle.std.proofs.Common.{◌≡◌, ◌∙◌, arith}
+use Rattle.std.proofs.Common.{◌∙◌, arith}
 use Rattle.book.specs.Reading.{lines_in}
 use Rattle.book.proofs.Passing.{told_line, told_close, told_stop, left_open}
 use Rattle.book.proofs.lines.read_lines.Goals as goal

@@ -1,4 +1,3 @@
-use Rattle.std.proofs.Common.{◌≡◌}
 use Rattle.bounded.specs.Lists.{items_of}
 use Rattle.book.specs.Records.{body_reading, body_knots}
 use Rattle.book.specs.Loading.{knotting}

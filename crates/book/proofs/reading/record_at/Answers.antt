@@ -1,4 +1,4 @@
-use Rattle.std.proofs.Common.{◌≡◌, ℕ, ◌+◌, ◌*◌, ◌<◌, ◌≤◌, Bool, cond, ltb, List, [], length, get_or, drop, sym, ap, ◌∙◌, subst, arith, le-ltb, lt-ltb}
+use Rattle.std.proofs.Common.{◌≡◌, ℕ, ◌+◌, ◌*◌, ◌<◌, ◌≤◌, Bool, cond, List, [], length, get_or, drop, sym, ap, ◌∙◌, subst, arith, le-ltb, lt-ltb}
 use Rattle.std.proofs.lemmas.List.{length-drop, get_or-drop}
 use Rattle.book.specs.declared.ops.Op.{Op}
 use Rattle.book.specs.declared.ops.Op.TheVariants.{Curve, Table}
@@ -7,7 +7,7 @@ use Rattle.book.specs.declared.refusals.Layer.{Layer}
 use Rattle.book.specs.declared.refusals.Layer.TheVariants.{Record as RecordLayer}
 use Rattle.book.specs.Ops.{operand_bytes, command_of}
 use Rattle.book.specs.Lines.{refused, lines_from}
-use Rattle.book.specs.Records.{Found, stopped, curve_by, outside_by}
+use Rattle.book.specs.Records.{stopped, curve_by, outside_by}
 use Rattle.book.specs.Told.{refusal_told, found_told}
 use Rattle.book.proofs.Parts.{nine_further, misplaced, unknown_told, short_told, operands_there, record_by}
 use Rattle.book.proofs.reading.record_at.Goals as goal

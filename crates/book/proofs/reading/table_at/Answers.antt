@@ -1,5 +1,4 @@
-use Rattle.std.proofs.Common.{◌≡◌, ◌+◌, ◌-◌, ◌*◌, get_or, take, drop, refl, ap, ◌∙◌}
-use Rattle.book.specs.declared.refusals.Refusal.{Refusal}
+use Rattle.std.proofs.Common.{◌+◌, ◌-◌, ◌*◌, get_or, take, drop, refl, ap, ◌∙◌}
 use Rattle.book.specs.Told.{refusal_told}
 use Rattle.book.proofs.Parts.{tag_part, body_part, body_whole, table_told_lem, table_refused}
 use Rattle.book.proofs.reading.table_at.Goals as goal

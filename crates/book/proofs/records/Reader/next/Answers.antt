@@ -1,7 +1,7 @@
-use Rattle.std.proofs.Common.{◌≡◌, ℕ, ◌+◌, ◌<◌, ◌≤◌, length, drop, Some, Option, sym, refl, ap, ◌∙◌, subst, arith, w64, Fits, rules}
+use Rattle.std.proofs.Common.{ℕ, ◌+◌, ◌≤◌, drop, Some, sym, refl, ap, ◌∙◌, arith, w64, Fits, rules}
 use Rattle.std.proofs.lemmas.List.{length-drop}
-use Rattle.book.specs.Records.{Found, record_at}
-use Rattle.book.specs.Told.{told_of, Place, place_of, found_at, place_after, rule_told}
+use Rattle.book.specs.Records.{record_at}
+use Rattle.book.specs.Told.{told_of, place_of, place_after, rule_told}
 use Rattle.book.proofs.Found.{record_says}
 use Rattle.book.proofs.Nexts.{refusal_stays, found_there, told_size}
 use Rattle.book.proofs.records.Reader.next.Goals as goal

@@ -1,10 +1,10 @@
-use Rattle.std.proofs.Common.{◌≡◌, ℕ, ◌-◌, ◌<◌, ◌≤◌, List, length, get_or, take, drop, sym, ap, ◌∙◌, subst, arith, length-set}
+use Rattle.std.proofs.Common.{◌-◌, ◌<◌, List, length, get_or, take, drop, ap, ◌∙◌, subst, arith, length-set}
 use Rattle.knots.specs.declared.knots.Knot.{Knot}
 use Rattle.knots.specs.Tables.{Made}
 use Rattle.book.specs.Records.{knots_at, body_reading}
 use Rattle.book.proofs.Passing.{rest_is}
 use Rattle.book.proofs.Knotting.{knots_copied, knots_all}
-use Rattle.book.proofs.knots.read_table.Goals as goal
+use Rattle.book.proofs.knot_bytes.read_table.Goals as goal
 
 pub loop-n-preserved : goal.loop-n-preserved
 loop-n-preserved c =

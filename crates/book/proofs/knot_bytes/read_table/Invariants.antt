@@ -1,6 +1,6 @@
 use Rattle.std.proofs.Common.{◌≡◌, length, take}
 use Rattle.book.specs.Records.{knots_at}
-use Rattle.book.proofs.knots.read_table.Given as goal
+use Rattle.book.proofs.knot_bytes.read_table.Given as goal
 
 -- the first places hold the first knots
 abbrev pub invariant-loop-n : goal.invariant-loop-n
