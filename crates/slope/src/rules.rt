@@ -73,10 +73,11 @@ impl Slope {
     pub fn neg(self) -> Slope
         ensures { Follows (neg_slope self) (Law1 (each negated) self) result }
     {
+        let turned = self.s.neg();
         Slope {
             v: self.v.neg(),
             u: self.u.neg(),
-            s: self.s.neg(),
+            s: turned,
         }
     }
 

@@ -6,4 +6,4 @@ use Rattle.slope.proofs.Keeps.{neg_keeps, follows}
 use Rattle.slope.proofs.entries.Slope.neg.Goals as goal
 
 pub returns : goal.returns
-returns c = follows (neg_slope c.args.self) (Law1 (each negated) c.args.self) _ (neg_keeps c.args.self) (λ i. record { v = c.neg.ensures.same i; u = c.neg-2.ensures.same i; s = c.neg-3.ensures.same i })
+returns c = follows (neg_slope c.args.self) (Law1 (each negated) c.args.self) _ (neg_keeps c.args.self) (λ i. record { v = c.neg.ensures.same i; u = c.neg-2.ensures.same i; s = c.neg-turned.ensures.same i })
