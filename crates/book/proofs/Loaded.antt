@@ -1,5 +1,5 @@
 -- What each turn of a load does to what is gathered, and what holds at its end.
-use Rattle.std.proofs.Common.{◌≡◌, ℕ, ◌+◌, ◌-◌, ◌*◌, ◌<◌, ◌≤◌, List, [], ◌∷◌, ◌++◌, map, length, get_or, drop, Some, None, Ok, Err, Option, Result, sym, refl, ap, ◌∙◌, subst, append-nil, arith, length-append}
+use Rattle.std.proofs.Common.{◌≡◌, ℕ, ◌+◌, ◌*◌, ◌<◌, ◌≤◌, List, [], ◌∷◌, ◌++◌, map, length, get_or, drop, Some, None, Ok, Err, Option, Result, sym, refl, ap, ◌∙◌, subst, append-nil, arith, length-append}
 use Rattle.std.proofs.Math.ListN.{get_or-map}
 use Rattle.std.specs.Option.{option_map}
 use Rattle.exact.specs.Fraction.{Fraction}
@@ -19,11 +19,11 @@ use Rattle.knots.specs.declared.tables.KnotTable.{KnotTable}
 use Rattle.tables.specs.Family.{height_less}
 use Rattle.book.specs.declared.refusals.Refusal.{Refusal}
 use Rattle.book.specs.Lines.{lines_from}
-use Rattle.book.specs.Records.{Said, a_curve, a_table, Entry, size_of, Found, found, stopped, body_reading, body_knots}
+use Rattle.book.specs.Records.{Said, a_curve, a_table, Entry, Found, found, stopped, body_reading, body_knots}
 use Rattle.book.specs.Books.{curves_after, tables_after, read_book}
 use Rattle.book.specs.Told.{curve_told, table_told, refusal_told, entry_by, Place, found_at, place_after, rule_told}
 use Rattle.book.specs.Loading.{IsRead, lines_read, curve_of, table_of, curves_in, tables_in, listing, tabling, knotting, load_answer, ListsAfter, TablesAfter, ListsMean, TablesMean, curve_value, knots_value}
-use Rattle.book.proofs.Walking.{records_at, on_found, records_at_lem, size_positive}
+use Rattle.book.proofs.Walking.{records_at, on_found, records_at_lem}
 use Rattle.book.proofs.Gathering.{Lot, gathered, gather_step, Loading, OnCurve, OnTable, on_curve, on_table}
 
 -- ---- the end of the book
@@ -122,14 +122,6 @@ module _ (book held : List ℕ) (p : Place) where
     entry_more : (e : Entry) → found_at held p ≡ Some (found e) → gathered (cs ++ map Some (curve_of e.said)) (ts ++ map Some (table_of e.said)) (records_at book (place_after p (Some (found e)))) ≡ gathered [] [] (read_book book)
     entry_more e is = sym (gather_step cs ts e (records_at book (place_after p (Some (found e))))) ∙ by_found cs ts l (Some (found e)) is
 
-    -- the place behind it, and less of the book is left
-    at_least_one : (e : Entry) → found_at held p ≡ Some (found e) → p.at + size_of e ≤ length held → (q : Place) → q ≡ place_after p (found_at held p) → length book - q.at < length book - p.at
-    at_least_one e is h q b =
-        let n = size_positive e in
-        let a : q.at ≡ p.at + size_of e = ap (λ (x : Place). x.at) (b ∙ ap (place_after p) is) in
-        let m : length held ≡ length book = ap length l.same in
-        omega arith
-
     -- what holds where a curve was told
     pub record ACurve (offset : ℕ) : Type 0 where
       pub read : IsRead (lines_from [] 0 (offset + 9) (drop (offset + 9) book))
@@ -137,7 +129,6 @@ module _ (book held : List ℕ) (p : Place) where
       pub small : offset ≤ 8192
       pub next : (q : Place) (more : List ℕ) (new : List (Option (List Line))) → q ≡ place_after p (found_at held p) → more ≡ held
           → new ≡ cs ++ (Some (lines_read (lines_from [] 0 (offset + 9) (drop (offset + 9) book))) ∷ []) → Loading book more q new ts
-      pub falls : (q : Place) → q ≡ place_after p (found_at held p) → length book - q.at < length book - p.at
 
     curve_more : (offset : ℕ) → OnCurve held p (found_at held p) offset → ACurve offset
     curve_more offset o =
@@ -157,7 +148,6 @@ module _ (book held : List ℕ) (p : Place) where
                 curves = ap length n ∙ length-append cs _ ∙ omega (arith, l.curves) ∙ sym (ap (λ (x : Place). x.curves) here ∙ ap (λ k. curves_after k p.curves) o.said);
                 tables = l.tables ∙ sym (ap (λ (x : Place). x.tables) here ∙ ap (λ k. tables_after k p.tables) o.said);
               };
-          falls = at_least_one e o.is o.size;
         }
 
     pub at_a_curve : (offset : ℕ) (tag body : List ℕ) → Some (curve_told offset tag body) ≡ rule_told (found_at held p) → ACurve offset
@@ -170,7 +160,6 @@ module _ (book held : List ℕ) (p : Place) where
       pub room : length ts < 8
       pub next : (q : Place) (more : List ℕ) (new : List (Option (ℕ × List Knot))) → q ≡ place_after p (found_at held p) → more ≡ held
           → new ≡ ts ++ (Some (body_reading body, body_knots body) ∷ []) → Loading book more q cs new
-      pub falls : (q : Place) → q ≡ place_after p (found_at held p) → length book - q.at < length book - p.at
 
     table_more : (body : List ℕ) → OnTable held p (found_at held p) body → ATable body
     table_more body o =
@@ -189,7 +178,6 @@ module _ (book held : List ℕ) (p : Place) where
                 curves = l.curves ∙ sym (ap (λ (x : Place). x.curves) here ∙ ap (λ k. curves_after k p.curves) o.said);
                 tables = ap length n ∙ length-append ts _ ∙ omega (arith, l.tables) ∙ sym (ap (λ (x : Place). x.tables) here ∙ ap (λ k. tables_after k p.tables) o.said);
               };
-          falls = at_least_one e o.is o.size;
         }
 
     pub at_a_table : (offset : ℕ) (tag body : List ℕ) → Some (table_told offset tag body) ≡ rule_told (found_at held p) → ATable body

@@ -25,7 +25,7 @@ on_found bs p None = Ok []
 on_found bs p (Some (stopped r)) = Err r
 on_found bs p (Some (found e)) = before e (records_at bs (place_after p (Some (found e))))
 
-pub size_positive : (e : Entry) → 1 ≤ size_of e
+size_positive : (e : Entry) → 1 ≤ size_of e
 size_positive e = by e.said
   where
     by : (k : Said) → 1 ≤ size_by k (length e.body)
