@@ -2,8 +2,12 @@
 #![tactic(auto)]
 
 ghost use Rattle.std.specs.Prelude.{◌≡◌, drop, pos, ◌≢◌};
-ghost use Rattle.hostcall.specs.Numbers.{Refused};
 
+pub mod refusals;
+
+use crate::refusals::HostRefusal;
+use bounded::lists::Bounded;
+use book::ops::Op;
 use codelist::curves::Lists;
 use codelist::lines::Line;
 use codelist::lists::CodeList;
@@ -18,158 +22,134 @@ use knots::tables::KnotTable;
 use slopes::lists::SlopeLists;
 use tables::curves::{TableList, Tables};
 
-// Bytes that are no list or no row.
-const MALFORMED: u8 = 1;
-
-fn line_of(op: u8, a: u8, b: u8, c: u8, v: i32) -> Option<Line> {
-    match op {
-        0x01 => Some(Line::X),
-        0x02 => Some(Line::C(v)),
-        0x03 => Some(Line::R(a)),
-        0x10 => Some(Line::Neg(a)),
-        0x11 => Some(Line::Abs(a)),
-        0x12 => Some(Line::Add(a, b)),
-        0x13 => Some(Line::Sub(a, b)),
-        0x14 => Some(Line::Mul(a, b)),
-        0x15 => Some(Line::Div(a, b)),
-        0x16 => Some(Line::Max(a, b)),
-        0x18 => Some(Line::Chi(a, b, c)),
-        _ => None,
+// A line's eight bytes: the operation, three operands, a constant.
+fn line_of(bytes: &[u8; 8]) -> Result<Line, HostRefusal> {
+    let [op, a, b, c, v0, v1, v2, v3] = *bytes;
+    match Op::try_from(op) {
+        Ok(Op::X) => Ok(Line::X),
+        Ok(Op::C) => Ok(Line::C(i32::from_be_bytes([v0, v1, v2, v3]))),
+        Ok(Op::R) => Ok(Line::R(a)),
+        Ok(Op::Neg) => Ok(Line::Neg(a)),
+        Ok(Op::Abs) => Ok(Line::Abs(a)),
+        Ok(Op::Add) => Ok(Line::Add(a, b)),
+        Ok(Op::Sub) => Ok(Line::Sub(a, b)),
+        Ok(Op::Mul) => Ok(Line::Mul(a, b)),
+        Ok(Op::Div) => Ok(Line::Div(a, b)),
+        Ok(Op::Max) => Ok(Line::Max(a, b)),
+        Ok(Op::Chi) => Ok(Line::Chi(a, b, c)),
+        _ => Err(HostRefusal::Malformed),
     }
 }
 
-// The list with one line more, begun with it where there is none yet.
-fn grown(list: Option<CodeList>, line: Line) -> Result<CodeList, u8>
-    ensures { Refused result }
-{
-    let Some(mut list) = list else {
-        return match CodeList::new(line) {
-            Ok(list) => Ok(list),
-            Err(refusal) => Err(refusal.number()),
-        };
-    };
-    match list.push(line) {
-        Ok(()) => Ok(list),
-        Err(refusal) => Err(refusal.number()),
+fn list_of(first: &[u8; 8], rest: &[[u8; 8]]) -> Result<CodeList, HostRefusal> {
+    let mut list = CodeList::new(line_of(first)?)?;
+    for line in rest {
+        list.push(line_of(line)?)?;
     }
+    Ok(list)
 }
 
-// Eight bytes for each line: the operation, three operands, a constant.
-fn read_list(lines: &[u8]) -> Result<CodeList, u8>
-    ensures { Refused result }
-{
-    let mut list = None;
-    let mut rest = lines;
-    for _ in 0..lines.len() / 8 {
-        let [op, a, b, c, v0, v1, v2, v3, tail @ ..] = rest else {
-            return Err(MALFORMED);
-        };
-        let v = i32::from_be_bytes([*v0, *v1, *v2, *v3]);
-        let Some(line) = line_of(*op, *a, *b, *c, v) else {
-            return Err(MALFORMED);
-        };
-        list = Some(grown(list, line)?);
-        rest = tail;
-    }
-    list.ok_or(MALFORMED)
-}
-
-fn read_one(present: u8, lo: i32, hi: i32) -> Result<Option<Reading>, u8>
-    ensures { Refused result }
-{
+// A reading's nine bytes: whether it is there, its ends.
+fn reading_of(bytes: &[u8; 9]) -> Result<Option<Reading>, HostRefusal> {
+    let [present, l0, l1, l2, l3, h0, h1, h2, h3] = *bytes;
+    let (lo, hi) = (i32::from_be_bytes([l0, l1, l2, l3]), i32::from_be_bytes([h0, h1, h2, h3]));
     match present {
         0 => Ok(None),
-        1 => match Reading::new(lo, hi) {
-            Ok(r) => Ok(Some(r)),
-            Err(refusal) => Err(refusal.number()),
-        },
-        _ => Err(MALFORMED),
+        1 => Ok(Some(Reading::new(lo, hi)?)),
+        _ => Err(HostRefusal::Malformed),
     }
 }
 
-// Nine bytes for each of eight readings: whether it is there, its ends.
-fn read_row(readings: &[u8]) -> Result<Row, u8>
-    ensures { Refused result }
-{
-    if readings.len() != 72 {
-        return Err(MALFORMED);
+// Eight readings.
+fn row_of(bytes: &[u8]) -> Result<Row, HostRefusal> {
+    let (readings, []) = bytes.as_chunks::<9>() else {
+        return Err(HostRefusal::Malformed);
+    };
+    if readings.len() != 8 {
+        return Err(HostRefusal::Malformed);
     }
     let mut row = [None; 8];
-    let mut rest = readings;
-    for n in 0..8 {
-        let [present, l0, l1, l2, l3, h0, h1, h2, h3, tail @ ..] = rest else {
-            return Err(MALFORMED);
-        };
-        let lo = i32::from_be_bytes([*l0, *l1, *l2, *l3]);
-        let hi = i32::from_be_bytes([*h0, *h1, *h2, *h3]);
-        row[n] = read_one(*present, lo, hi)?;
-        rest = tail;
+    for (place, reading) in row.iter_mut().zip(readings) {
+        *place = reading_of(reading)?;
     }
     Ok(row)
 }
 
-// The bytes of both answers: for each a byte that tells whether it has bounds, then its ends, big-endian.
-fn answer_bytes(list: CodeList, cell: Cell, row: &Row) -> [u8; 18] {
-    let mut table = ListTable::new();
-    let _taken = table.push(list);
-    let plain = Lists { table }.enclosure(0, cell, row);
-    let sloped = SlopeLists { table }.enclosure(0, cell, row);
-    let mut bytes = [0; 18];
-    put(&mut bytes, 0, plain);
-    put(&mut bytes, 9, sloped);
-    bytes
-}
-
-// An answer's nine bytes, where they have room.
-fn put(bytes: &mut [u8], at: usize, e: Enclosure) {
-    let Enclosure::Bounds { lo, hi } = e else {
-        return;
-    };
-    let (lo, hi) = (lo.to_be_bytes(), hi.to_be_bytes());
-    if bytes.len() >= 9 && at <= bytes.len() - 9 {
-        bytes[at] = 1;
-        for k in 0..4 {
-            bytes[at + 1 + k] = lo[k];
-            bytes[at + 5 + k] = hi[k];
-        }
+// A knot's eight bytes: x, y.
+fn knot_of(bytes: &[u8; 8]) -> Knot {
+    let [x0, x1, x2, x3, y0, y1, y2, y3] = *bytes;
+    Knot {
+        x: i32::from_be_bytes([x0, x1, x2, x3]),
+        y: i32::from_be_bytes([y0, y1, y2, y3]),
     }
 }
 
 // Room for more knots than a table may have.
 const ROOM: usize = 300;
 
-// Eight bytes for each knot: x, y.
-fn read_table(reading: u8, bytes: &[u8]) -> Result<KnotTable, u8>
-    ensures { Refused result }
-{
-    let mut knots = [Knot { x: 0, y: 0 }; ROOM];
-    let mut count = 0;
-    let mut rest = bytes;
-    for n in 0..ROOM {
-        let [x0, x1, x2, x3, y0, y1, y2, y3, tail @ ..] = rest else {
-            break;
-        };
-        let x = i32::from_be_bytes([*x0, *x1, *x2, *x3]);
-        let y = i32::from_be_bytes([*y0, *y1, *y2, *y3]);
-        knots[n] = Knot { x, y };
-        count = n + 1;
-        rest = tail;
+fn table_of(reading: u8, bytes: &[u8]) -> Result<KnotTable, HostRefusal> {
+    let (knots, []) = bytes.as_chunks::<8>() else {
+        return Err(HostRefusal::Malformed);
+    };
+    let mut all: Bounded<Knot, ROOM> = Bounded::new();
+    for knot in knots {
+        all.push(knot_of(knot))?;
     }
-    if !rest.is_empty() {
-        return Err(MALFORMED);
-    }
-    match KnotTable::new(reading, &knots[0..count]) {
-        Ok(table) => Ok(table),
-        Err(refusal) => Err(refusal.number()),
-    }
+    Ok(KnotTable::new(reading, all.as_slice())?)
 }
 
-fn table_bytes(table: KnotTable, cell: Cell, row: &Row) -> [u8; 9] {
-    let mut tables = TableList::new();
-    let _taken = tables.push(table);
-    let mut bytes = [0; 9];
-    put(&mut bytes, 0, Tables { tables }.enclosure(0, cell, row));
-    bytes
+// An answer's nine bytes: whether it has bounds, then its ends, big-endian.
+fn bytes_of(answer: Enclosure) -> [u8; 9] {
+    let Enclosure::Bounds { lo, hi } = answer else {
+        return [0; 9];
+    };
+    let ([a, b, c, d], [e, f, g, h]) = (lo.to_be_bytes(), hi.to_be_bytes());
+    [1, a, b, c, d, e, f, g, h]
+}
+
+// By plain rules, then by slopes.
+fn answers_of_list(lines: &[u8], readings: &[u8], cell: Cell) -> Result<[u8; 18], HostRefusal> {
+    let ([first, rest @ ..], []) = lines.as_chunks::<8>() else {
+        return Err(HostRefusal::Malformed);
+    };
+    let row = row_of(readings)?;
+    let mut items = ListTable::new();
+    items.push(list_of(first, rest)?)?;
+    let mut bytes = [0; 18];
+    let (plain, sloped) = bytes.split_at_mut(9);
+    plain.copy_from_slice(&bytes_of(Lists { items }.enclosure(0, cell, &row)));
+    sloped.copy_from_slice(&bytes_of(SlopeLists { items }.enclosure(0, cell, &row)));
+    Ok(bytes)
+}
+
+fn answer_of_table(reading: u8, knots: &[u8], readings: &[u8], cell: Cell) -> Result<[u8; 9], HostRefusal> {
+    let row = row_of(readings)?;
+    let mut items = TableList::new();
+    items.push(table_of(reading, knots)?)?;
+    Ok(bytes_of(Tables { items }.enclosure(0, cell, &row)))
+}
+
+// Writes an answer's bytes at the start of out. A refusal leaves out as it was, as does an out that is too short.
+fn write<const N: usize>(answer: Result<[u8; N], HostRefusal>, out: &mut [u8]) -> Result<(), HostRefusal>
+    ensures refused { OnErr result (out.new ≡ out.old) }
+    ensures rest { drop N out.new ≡ drop N out.old }
+{
+    let Some(place) = out.first_chunk_mut::<N>() else {
+        return Err(HostRefusal::Malformed);
+    };
+    *place = answer?;
+    Ok(())
+}
+
+// 0, or the refusal's number.
+fn number_of(done: Result<(), HostRefusal>) -> i64
+    ensures { OnErr done (result ≢ pos 0) }
+    
+{
+    match done {
+        Ok(()) => 0,
+        Err(refusal) => i64::from(refusal),
+    }
 }
 
 // 0 where the answer is written into the first 9 bytes of out; otherwise a refusal's number, and out is as it was.
@@ -185,22 +165,7 @@ pub extern "C" fn zefrwyll_host_table(
     ensures refused { (result ≢ pos 0) → out.new ≡ out.old }
     ensures rest { drop 9 out.new ≡ drop 9 out.old }
 {
-    if out.len() < 9 {
-        return 1;
-    }
-    let row = match read_row(readings) {
-        Ok(row) => row,
-        Err(number) => return number as i64,
-    };
-    let table = match read_table(reading, knots) {
-        Ok(table) => table,
-        Err(number) => return number as i64,
-    };
-    let answer = table_bytes(table, Cell { lo, hi }, &row);
-    for k in 0..9 {
-        out[k] = answer[k];
-    }
-    0
+    number_of(write(answer_of_table(reading, knots, readings, Cell { lo, hi }), out))
 }
 
 // 0 where the answers are written into the first 18 bytes of out; otherwise a refusal's number, and out is as it was.
@@ -215,26 +180,5 @@ pub extern "C" fn zefrwyll_host_enclosures(
     ensures refused { (result ≢ pos 0) → out.new ≡ out.old }
     ensures rest { drop 18 out.new ≡ drop 18 out.old }
 {
-    if out.len() < 18 {
-        return 1;
-    }
-    if lines.is_empty() {
-        return 1;
-    }
-    if lines.len() % 8 != 0 {
-        return 1;
-    }
-    let row = match read_row(readings) {
-        Ok(row) => row,
-        Err(number) => return number as i64,
-    };
-    let list = match read_list(lines) {
-        Ok(list) => list,
-        Err(number) => return number as i64,
-    };
-    let bytes = answer_bytes(list, Cell { lo, hi }, &row);
-    for k in 0..18 {
-        out[k] = bytes[k];
-    }
-    0
+    number_of(write(answers_of_list(lines, readings, Cell { lo, hi }), out))
 }

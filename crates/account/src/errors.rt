@@ -1,0 +1,20 @@
+// What can go wrong: a curve or a reading is refused, or a line is not written.
+use bounded::lists::Full;
+use codelist::lines::LineRefusal;
+use family::readings::ReadingRefusal;
+use std::io;
+use thiserror::Error;
+
+#[derive(Debug, Drop, Error)]
+pub enum AccountError {
+    #[error("a curve of no line")]
+    NoLine,
+    #[error("refused line: {0:?}")]
+    Line(#[from] LineRefusal),
+    #[error("refused reading: {0:?}")]
+    Reading(#[from] ReadingRefusal),
+    #[error("too many curves: {0:?}")]
+    Full(#[from] Full),
+    #[error(transparent)]
+    Print(#[from] io::Error),
+}

@@ -1,0 +1,61 @@
+// Why a call from the host is refused, and the refusal's number.
+ghost use Rattle.std.specs.Prelude.{◌≡◌};
+ghost use Rattle.hostcall.specs.declared.refusals.HostRefusal.TheVariants.{Malformed, Line, Reading, Table};
+ghost use Rattle.hostcall.specs.Numbers.{number_of};
+
+use bounded::lists::Full;
+use codelist::lines::LineRefusal;
+use family::readings::ReadingRefusal;
+use knots::knots::TableRefusal;
+
+#[derive(Clone, Copy, PartialEq, Eq, Debug)]
+pub enum HostRefusal {
+    // bytes that are no list, table or row, or no room for the answer
+    Malformed,
+    Line(LineRefusal),
+    Reading(ReadingRefusal),
+    Table(TableRefusal),
+}
+
+impl From<Full> for HostRefusal {
+    fn from(_full: Full) -> HostRefusal {
+        HostRefusal::Malformed
+    }
+}
+
+impl From<LineRefusal> for HostRefusal {
+    ghost from_gives = { λ refusal r. r ≡ Line refusal };
+
+    fn from(refusal: LineRefusal) -> HostRefusal {
+        HostRefusal::Line(refusal)
+    }
+}
+
+impl From<ReadingRefusal> for HostRefusal {
+    ghost from_gives = { λ refusal r. r ≡ Reading refusal };
+
+    fn from(refusal: ReadingRefusal) -> HostRefusal {
+        HostRefusal::Reading(refusal)
+    }
+}
+
+impl From<TableRefusal> for HostRefusal {
+    ghost from_gives = { λ refusal r. r ≡ Table refusal };
+
+    fn from(refusal: TableRefusal) -> HostRefusal {
+        HostRefusal::Table(refusal)
+    }
+}
+
+impl From<HostRefusal> for i64 {
+    ghost from_gives = { λ refusal n. n ≡ number_of refusal };
+
+    fn from(refusal: HostRefusal) -> i64 {
+        match refusal {
+            HostRefusal::Malformed => 1,
+            HostRefusal::Line(refusal) => u8::from(refusal) as i64,
+            HostRefusal::Reading(refusal) => u8::from(refusal) as i64,
+            HostRefusal::Table(refusal) => u8::from(refusal) as i64,
+        }
+    }
+}
