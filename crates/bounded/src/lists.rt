@@ -1,15 +1,21 @@
 // The declared type.
 ghost use Rattle.std.specs.Prelude.{◌≡◌, ◌≤◌, length};
+ghost use Rattle.std.specs.Option.{ForSome};
+ghost use Rattle.bounded.specs.Places.{placed};
 
 use std::alloc::AllocError;
 
-// At most N items, in order. The first len places hold them.
+// At most N items, in order: the first len of the places, which stand from the first item on.
 pub struct Bounded<T, const N: usize> {
-    places: [Option<T>; N],
+    places: Option<[T; N]>,
     len: usize,
-    ghost sized: { length places ≡ N },
-    ghost few: { len ≤ N },
+    ghost sized: { ForSome places (λ all. length all ≡ N) },
+    ghost few: { len ≤ length (placed places) },
 }
+
+// Why an item is refused: there is no room.
+#[derive(Clone, Copy, PartialEq, Eq, Debug)]
+pub struct Full;
 
 impl<T: Copy, const N: usize> Clone for Bounded<T, N> {
     ghost is_clone = { λ x y. y ≡ x };

@@ -1,5 +1,5 @@
 -- What existing cells and readings have: ends that ascend, a middle inside, ends within the limit.
-use Rattle.std.proofs.Common.{◌≡◌, Bool, true, false, ◌&&◌, T, ℤ, pos, ◌+ℤ◌, ◌-ℤ◌, ◌*ℤ◌, neg_ℤ, ◌≤ℤ◌, Some, None, Option, refl, arith}
+use Rattle.std.proofs.Common.{◌≡◌, Bool, true, ◌&&◌, ℤ, pos, ◌+ℤ◌, ◌-ℤ◌, ◌*ℤ◌, neg_ℤ, ◌≤ℤ◌, Some, None, Option, refl, arith}
 use lib.Signed.{le_z}
 use borrow.Author.Differences.{ints}
 use Rattle.std.proofs.lemmas.Bool.{and_parts}
@@ -26,16 +26,12 @@ middle-inside c e =
     let o = ascends c e in
     (omega (arith, ints), omega (arith, ints))
 
-is_true : (b : Bool) → T b → b ≡ true
-is_true true t = refl
-is_true false t = absurd t
-
 ends_within : (lo hi : ℤ) → le_z (neg_ℤ limit) lo ≡ true → le_z lo hi ≡ true → le_z hi limit ≡ true → (within lo ≡ true) × (within hi ≡ true)
 ends_within lo hi p q r = (grind (arith, ints), grind (arith, ints))
 
 reading_within : (r : Reading) → (within r.lo ≡ true) × (within r.hi ≡ true)
 reading_within r =
-    let h = all_true (le_z (neg_ℤ limit) r.lo) (le_z r.lo r.hi) (le_z r.hi limit) (is_true _ r.valid) in
+    let h = all_true (le_z (neg_ℤ limit) r.lo) (le_z r.lo r.hi) (le_z r.hi limit) r.valid in
     ends_within r.lo r.hi h.0 h.1 h.2
 
 pub reading_range : (o : Option Reading) → InRange (reading_pair o)
@@ -88,6 +84,6 @@ some_allowed row n = by (reading_at row n)
     by : (o : Option Reading) → Allows o (some_temperature o)
     by None = tt
     by (Some r) =
-        let h = all_true (le_z (neg_ℤ limit) r.lo) (le_z r.lo r.hi) (le_z r.hi limit) (is_true _ r.valid) in
+        let h = all_true (le_z (neg_ℤ limit) r.lo) (le_z r.lo r.hi) (le_z r.hi limit) r.valid in
         let o = h.1 in
         (omega (arith, ints), omega (arith, ints))

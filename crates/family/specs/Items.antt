@@ -1,14 +1,20 @@
--- A family given by a bounded list of items (code lists, knot tables), one curve for each: its count, values and answers.
-use Rattle.std.specs.Prelude.{ℕ, cond, length, Some, None, Option}
+-- A family given by its items, one curve for each: its count, values and answers, and what is asked of the items.
+use Rattle.std.specs.Prelude.{◌≡◌, ℕ, true, cond, length, Some, None, Option}
 use Rattle.exact.specs.Fraction.{Fraction}
 use Rattle.exact.specs.Value.{Value, none}
-use Rattle.bounded.specs.declared.lists.Bounded.{Bounded}
 use Rattle.bounded.specs.Lists.{items_of, item_at}
 use Rattle.interval.specs.declared.enclosures.Enclosure.{Enclosure}
 use Rattle.interval.specs.declared.enclosures.Enclosure.TheVariants.{NoBounds}
+use Rattle.interval.specs.Meaning.{Holds, InRange}
 use Rattle.family.specs.declared.cells.Cell.{Cell}
-use Rattle.family.specs.Cells.{exists}
-use Rattle.family.specs.Readings.{Temperatures, RowOf}
+use Rattle.family.specs.declared.curves.Curves.{Curves}
+use Rattle.family.specs.Cells.{exists, InCell}
+use Rattle.family.specs.Readings.{Temperatures, RowOf, Allowed}
+
+-- over cells that exist, an item's answers hold its values; its answers lie within the limit
+pub record ItemLaw {T : Type 0} (value : T → Temperatures → Fraction → Value) (answer : T → Cell → RowOf → Enclosure) : Type 0 where
+  pub holds : (i : T) (c : Cell) (row : RowOf) (t : Temperatures) (x : Fraction) → exists c ≡ true → Allowed row t → InCell c x → Holds (answer i c row) (value i t x)
+  pub range : (i : T) (c : Cell) (row : RowOf) → InRange (answer i c row)
 
 -- what no item has: a value, bounds
 abbrev pub value_by : {T : Type 0} → (T → Temperatures → Fraction → Value) → Option T → Temperatures → Fraction → Value
@@ -19,12 +25,12 @@ abbrev pub answer_by : {T : Type 0} → (T → Cell → RowOf → Enclosure) →
 answer_by answer None c row = NoBounds
 answer_by answer (Some i) c row = answer i c row
 
-abbrev pub item_count : {S T : Type 0} {N : ℕ} → (S → Bounded T N) → S → ℕ
-item_count items s = length (items_of (items s))
+abbrev pub item_count : {T W : Type 0} → Curves T W → ℕ
+item_count s = length (items_of s.items)
 
-abbrev pub item_value : {S T : Type 0} {N : ℕ} → (S → Bounded T N) → (T → Temperatures → Fraction → Value) → S → ℕ → Temperatures → Fraction → Value
-item_value items value s k t x = value_by value (item_at (items s) k) t x
+abbrev pub item_value : {T W : Type 0} → (T → Temperatures → Fraction → Value) → Curves T W → ℕ → Temperatures → Fraction → Value
+item_value value s k t x = value_by value (item_at s.items k) t x
 
 -- a cell that does not exist has no bounds
-abbrev pub item_answer : {S T : Type 0} {N : ℕ} → (S → Bounded T N) → (T → Cell → RowOf → Enclosure) → S → ℕ → Cell → RowOf → Enclosure
-item_answer items answer s k c row = cond (exists c) (answer_by answer (item_at (items s) k) c row) NoBounds
+abbrev pub item_answer : {T W : Type 0} → (T → Cell → RowOf → Enclosure) → Curves T W → ℕ → Cell → RowOf → Enclosure
+item_answer answer s k c row = cond (exists c) (answer_by answer (item_at s.items k) c row) NoBounds

@@ -1,6 +1,5 @@
 -- Readings, rows of them, and the true temperatures that a row allows.
-use Rattle.std.specs.Prelude.{◌≡◌, ℕ, Bool, true, false, T, List, ℤ, Some, None, Ok, Err, Option, Result, slice_index_or, refl}
-use Rattle.std.proofs.Common.{sym, subst}
+use Rattle.std.specs.Prelude.{◌≡◌, ℕ, Bool, true, false, List, ℤ, Some, None, Ok, Err, Option, Result, slice_index_or, refl}
 use Rattle.exact.specs.Fraction.{Fraction}
 use Rattle.interval.specs.declared.enclosures.Enclosure.{Enclosure}
 use Rattle.interval.specs.declared.enclosures.Enclosure.TheVariants.{NoBounds, Bounds}
@@ -16,7 +15,7 @@ number_of Ends = 2
 
 -- the reading from lo to hi, or the refusal
 abbrev pub reading_if : (lo hi : ℤ) (b : Bool) → believable lo hi ≡ b → Result Reading ReadingRefusal
-reading_if lo hi true e = Ok (record { lo = lo; hi = hi; valid = subst T (sym e) tt })
+reading_if lo hi true e = Ok (record { lo = lo; hi = hi; valid = e })
 reading_if lo hi false e = Err Ends
 
 abbrev pub reading_of : ℤ → ℤ → Result Reading ReadingRefusal

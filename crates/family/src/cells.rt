@@ -2,14 +2,14 @@
 ghost use Rattle.std.specs.Prelude.{◌≡◌};
 ghost use Rattle.family.specs.Cells.{exists, middle};
 
+// Openings lie from -SPAN to SPAN.
+pub const SPAN: i32 = 1_000_000;
+
 #[derive(Clone, Copy, PartialEq, Eq, Debug)]
 pub struct Cell {
     pub lo: i32,
     pub hi: i32,
 }
-
-// Openings lie from -SPAN to SPAN.
-const SPAN: i32 = 1_000_000;
 
 impl Cell {
     // A cell exists when its ends ascend and are openings.

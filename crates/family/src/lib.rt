@@ -2,6 +2,7 @@
 #![tactic(auto)]
 
 pub mod cells;
+pub mod curves;
 pub mod families;
 pub mod pairs;
 pub mod readings;

@@ -24,24 +24,19 @@ impl<F: Family, G: Family> Family for Pair<F, G> {
     ghost laws = { pair_lawful F.Family.laws G.Family.laws };
 
     fn curves(&self) -> usize {
-        let a = self.first.curves();
-        let b = self.second.curves();
-        if a >= MOST || b >= MOST - a {
-            MOST
-        } else {
-            a + b
-        }
+        let (first, second) = (self.first.curves(), self.second.curves());
+        first.saturating_add(second).min(MOST)
     }
 
     fn enclosure(&self, k: usize, cell: Cell, row: &Row) -> Enclosure {
         if k >= MOST {
             return Enclosure::NoBounds;
         }
-        let a = self.first.curves();
-        if k < a {
+        let first = self.first.curves();
+        if k < first {
             self.first.enclosure(k, cell, row)
         } else {
-            self.second.enclosure(k - a, cell, row)
+            self.second.enclosure(k - first, cell, row)
         }
     }
 }

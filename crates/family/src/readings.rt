@@ -1,13 +1,13 @@
 // A reading of a thermocouple: the true temperature lies from lo to hi, in counts. It can only be made with ends in order
 // and within the limit.
-ghost use Rattle.std.specs.Prelude.{◌≡◌, T};
+ghost use Rattle.std.specs.Prelude.{◌≡◌, IsTrue};
 ghost use Rattle.family.specs.Limits.{believable};
 
 #[derive(Clone, Copy)]
 pub struct Reading {
     lo: i32,
     hi: i32,
-    ghost valid: { T (believable lo hi) },
+    ghost valid: { IsTrue (believable lo hi) },
 }
 
 // Why a reading is refused.

@@ -1,5 +1,5 @@
 // A row: the eight readings, each present or absent; and their enclosures.
-ghost use Rattle.std.specs.Prelude.{◌≡◌};
+ghost use Rattle.std.specs.Prelude.{◌≡◌, Some};
 ghost use Rattle.family.specs.Readings.{reading_at, reading_pair};
 
 use crate::readings::Reading;
@@ -11,20 +11,23 @@ pub type Row = [Option<Reading>; 8];
 pub fn reading_at(row: &Row, n: u8) -> Option<Reading>
     ensures { result ≡ reading_at row.now n }
 {
-    let all: &[Option<Reading>] = row;
-    let n = n as usize;
-    if n < all.len() { all[n] } else { None }
+    *row.get(n as usize)?
+}
+
+impl From<Reading> for Enclosure {
+    ghost from_gives = { λ reading enclosure. enclosure ≡ reading_pair (Some reading) };
+
+    fn from(reading: Reading) -> Enclosure {
+        Enclosure::Bounds {
+            lo: reading.lo(),
+            hi: reading.hi(),
+        }
+    }
 }
 
 // The enclosure of a reading: its ends, or no bounds where it is absent.
 pub fn reading_pair(r: Option<Reading>) -> Enclosure
     ensures { result ≡ reading_pair r }
 {
-    match r {
-        Some(r) => Enclosure::Bounds {
-            lo: r.lo(),
-            hi: r.hi(),
-        },
-        None => Enclosure::NoBounds,
-    }
+    r.map_or(Enclosure::NoBounds, Enclosure::from)
 }

@@ -1,5 +1,8 @@
 // The declared types. What each case says of a value stands in specs/Meaning.antt.
 
+// The largest size of an end, in counts.
+pub const LIMIT: i32 = 2_000_000_000;
+
 // No bounds says nothing. Bounds say that there is a value, and that 1000 times it lies from lo to hi.
 #[derive(Clone, Copy, PartialEq, Eq, Debug)]
 pub enum Enclosure {

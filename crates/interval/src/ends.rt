@@ -3,11 +3,11 @@ ghost use Rattle.std.specs.Prelude.{◌≡◌, ◌^◌, ◌≤◌, pos, ◌*ℤ�
 ghost use Rattle.exact.specs.Rounding.{floor, ceiling};
 ghost use Rattle.interval.specs.Rules.{kept, products, quotients, quotients_apart, least, greatest, spans_zero, nearest, farthest};
 
+use crate::enclosures;
 use crate::enclosures::Enclosure;
 use exact::{ceil_div, floor_div};
 
-// The largest size of an end, in counts.
-const LIMIT: i64 = 2_000_000_000;
+const LIMIT: i64 = enclosures::LIMIT as i64;
 
 // The pair, or no bounds where an end lies beyond the limit.
 pub fn keep(lo: i64, hi: i64) -> Enclosure

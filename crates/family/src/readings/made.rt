@@ -3,8 +3,7 @@ ghost use Rattle.std.specs.Prelude.{◌≡◌};
 ghost use Rattle.family.specs.Readings.{reading_of, number_of};
 
 use crate::readings::{Reading, ReadingRefusal};
-
-const LIMIT: i32 = 2_000_000_000;
+use interval::enclosures::LIMIT;
 
 impl Reading {
     // Refused where lo > hi, or an end lies beyond the limit.
@@ -19,11 +18,11 @@ impl Reading {
     }
 }
 
-impl ReadingRefusal {
-    pub fn number(self) -> u8
-        ensures { result ≡ number_of self }
-    {
-        match self {
+impl From<ReadingRefusal> for u8 {
+    ghost from_gives = { λ refusal n. n ≡ number_of refusal };
+
+    fn from(refusal: ReadingRefusal) -> u8 {
+        match refusal {
             ReadingRefusal::Ends => 2,
         }
     }
