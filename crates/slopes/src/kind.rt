@@ -8,7 +8,7 @@ ghost use Rattle.slopes.specs.KindLaws.{slopes_law, slopes_division};
 use codelist::kinds::Kind;
 use family::cells::Cell;
 use family::readings::Reading;
-use interval::enclosures::Enclosure;
+use interval::enclosures::{Enclosure, LIMIT};
 use slope::entries::Slope;
 
 #[derive(Clone, Copy)]
@@ -17,7 +17,7 @@ pub struct Slopes;
 impl Kind for Slopes {
     type Entry = Slope;
 
-    const LARGEST: i64 = 2_000_000_000;
+    const LARGEST: i64 = LIMIT as i64;
 
     ghost LARGEST = { limit };
 
