@@ -8,20 +8,21 @@ ghost use Rattle.account.specs.Cells.{halved, Narrower};
 pub mod errors;
 
 use crate::errors::AccountError;
-use codelist::curves::Lists;
 use codelist::entries::Table;
+use codelist::intervals::Intervals;
+use codelist::kinds::Kind;
 use codelist::lines::Line;
-use codelist::lists::CodeList;
+use codelist::lists::{CodeList, ListTable};
 use codelist::places::Place;
+use codelist::plain::Lists;
 use codelist::running::run;
-use codelist::tables::ListTable;
 use family::cells::Cell;
 use family::families::Family;
 use family::readings::Reading;
 use family::rows::Row;
 use interval::enclosures::Sign;
-use slopes::kinds::Slopes;
-use slopes::lists::SlopeLists;
+use slopes::asking::SlopeLists;
+use slopes::kind::Slopes;
 
 fn list_of(lines: &[Line]) -> Result<CodeList, AccountError> {
     let [first, rest @ ..] = lines else {
@@ -107,13 +108,28 @@ struct Shown {
 }
 
 impl Shown {
+    // The lists as a family by plain rules, and by slopes.
+    fn plain(&self) -> Lists {
+        Lists {
+            items: self.lists,
+            way: Intervals,
+        }
+    }
+
+    fn sloped(&self) -> SlopeLists {
+        SlopeLists {
+            items: self.lists,
+            way: Slopes,
+        }
+    }
+
     // Each line of a curve with its entry over the cell.
     fn show_entries(&self, rt: &HostRuntime, k: usize, cell: Cell) -> Result<(), AccountError> {
         let Some(list) = self.lists.get(k) else {
             return Ok(());
         };
-        let mut table = Table::<Slopes>::new();
-        run(&mut table, list, cell, &self.row);
+        let mut table = Table::new(Slopes::blank());
+        run::<Slopes>(&mut table, list, cell, &self.row);
         for (n, line) in list.lines().iter().enumerate() {
             let entry = table.entry(Place::clamped(n));
             println!(rt; "  {n} {line}: {entry}")?;
@@ -126,11 +142,10 @@ impl Shown {
         let Some(list) = self.lists.get(k) else {
             return Ok(());
         };
-        let mut table = Table::<Slopes>::new();
-        run(&mut table, list, cell, &self.row);
-        let entry = table.last(list);
-        let plain = Lists { items: self.lists }.enclosure(k, cell, &self.row);
-        let sloped = SlopeLists { items: self.lists }.enclosure(k, cell, &self.row);
+        let mut table = Table::new(Slopes::blank());
+        let entry = run::<Slopes>(&mut table, list, cell, &self.row);
+        let plain = self.plain().enclosure(k, cell, &self.row);
+        let sloped = self.sloped().enclosure(k, cell, &self.row);
         let Cell { lo, hi } = cell;
         println!(rt; "  over {lo} to {hi}: {entry}: by lists {plain}, by slopes {sloped}")?;
         Ok(())
@@ -144,7 +159,7 @@ impl Shown {
 
     // One line for the cell, then its halves where it is neither clear nor narrow.
     fn show_cells(&self, rt: &HostRuntime, k: usize, cell: Cell) -> Result<(), AccountError> {
-        let margin = Lists { items: self.lists }.enclosure(k, cell, &self.row);
+        let margin = self.plain().enclosure(k, cell, &self.row);
         let parts = halves(cell);
         let said = verdict(margin.sign(), parts.is_some());
         let Cell { lo, hi } = cell;

@@ -1,6 +1,17 @@
--- The number of a refusal is never 0.
-use Rattle.std.specs.Prelude.{ℕ, ◌<◌, Ok, Err, Result}
+-- The numbers of a call from the host: 0 where it is done, else its refusal's, which is never 0.
+use Rattle.std.specs.Prelude.{ℕ, ℤ, pos, Ok, Err, Result}
+use Rattle.hostcall.specs.declared.refusals.HostRefusal.{HostRefusal}
+use Rattle.hostcall.specs.declared.refusals.HostRefusal.TheVariants.{Malformed, Line, Reading, Table}
+use Rattle.family.specs.Readings.{number_of as reading_number}
+use Rattle.codelist.specs.Lines.{number_of as line_number}
+use Rattle.knots.specs.Knots.{number_of as table_number}
 
-abbrev pub Refused : {X : Type 0} → Result X ℕ → Type 0
-Refused (Ok x) = Unit {0}
-Refused (Err n) = 0 < n
+abbrev pub number_of : HostRefusal → ℕ
+number_of Malformed = 1
+number_of (Line refusal) = line_number refusal
+number_of (Reading refusal) = reading_number refusal
+number_of (Table refusal) = table_number refusal
+
+abbrev pub number_given : {X : Type 0} → Result X HostRefusal → ℤ
+number_given (Ok x) = pos 0
+number_given (Err refusal) = pos (number_of refusal)

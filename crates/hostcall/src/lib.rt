@@ -1,17 +1,18 @@
 // C calls for the comparison from the host: the enclosures of a list by plain rules and by slopes, and of a knot table. For tests alone.
 #![tactic(auto)]
 
-ghost use Rattle.std.specs.Prelude.{◌≡◌, drop, pos, ◌≢◌};
+ghost use Rattle.std.specs.Prelude.{◌≡◌, drop, pos, ◌≢◌, OnErr};
+ghost use Rattle.hostcall.specs.Numbers.{number_given};
 
 pub mod refusals;
 
 use crate::refusals::HostRefusal;
+use book::ops::{Command, Op};
 use bounded::lists::Bounded;
-use book::ops::Op;
-use codelist::curves::Lists;
+use codelist::intervals::Intervals;
 use codelist::lines::Line;
-use codelist::lists::CodeList;
-use codelist::tables::ListTable;
+use codelist::lists::{CodeList, ListTable};
+use codelist::plain::Lists;
 use family::cells::Cell;
 use family::families::Family;
 use family::readings::Reading;
@@ -19,24 +20,20 @@ use family::rows::Row;
 use interval::enclosures::Enclosure;
 use knots::knots::Knot;
 use knots::tables::KnotTable;
-use slopes::lists::SlopeLists;
-use tables::curves::{TableList, Tables};
+use slopes::asking::SlopeLists;
+use slopes::kind::Slopes;
+use tables::curves::{LessReading, TableList, Tables};
 
 // A line's eight bytes: the operation, three operands, a constant.
 fn line_of(bytes: &[u8; 8]) -> Result<Line, HostRefusal> {
-    let [op, a, b, c, v0, v1, v2, v3] = *bytes;
-    match Op::try_from(op) {
-        Ok(Op::X) => Ok(Line::X),
-        Ok(Op::C) => Ok(Line::C(i32::from_be_bytes([v0, v1, v2, v3]))),
-        Ok(Op::R) => Ok(Line::R(a)),
-        Ok(Op::Neg) => Ok(Line::Neg(a)),
-        Ok(Op::Abs) => Ok(Line::Abs(a)),
-        Ok(Op::Add) => Ok(Line::Add(a, b)),
-        Ok(Op::Sub) => Ok(Line::Sub(a, b)),
-        Ok(Op::Mul) => Ok(Line::Mul(a, b)),
-        Ok(Op::Div) => Ok(Line::Div(a, b)),
-        Ok(Op::Max) => Ok(Line::Max(a, b)),
-        Ok(Op::Chi) => Ok(Line::Chi(a, b, c)),
+    let [byte, a, b, c, v0, v1, v2, v3] = *bytes;
+    let op = Op::try_from(byte).map_err(|_| HostRefusal::Malformed)?;
+    let command = match op {
+        Op::C => op.command(&[byte, v0, v1, v2, v3]),
+        _ => op.command(&[byte, a, b, c]),
+    };
+    match command {
+        Some(Command::Line(line)) => Ok(line),
         _ => Err(HostRefusal::Malformed),
     }
 }
@@ -117,8 +114,10 @@ fn answers_of_list(lines: &[u8], readings: &[u8], cell: Cell) -> Result<[u8; 18]
     items.push(list_of(first, rest)?)?;
     let mut bytes = [0; 18];
     let (plain, sloped) = bytes.split_at_mut(9);
-    plain.copy_from_slice(&bytes_of(Lists { items }.enclosure(0, cell, &row)));
-    sloped.copy_from_slice(&bytes_of(SlopeLists { items }.enclosure(0, cell, &row)));
+    let lists = Lists { items, way: Intervals };
+    plain.copy_from_slice(&bytes_of(lists.enclosure(0, cell, &row)));
+    let slope_lists = SlopeLists { items, way: Slopes };
+    sloped.copy_from_slice(&bytes_of(slope_lists.enclosure(0, cell, &row)));
     Ok(bytes)
 }
 
@@ -126,7 +125,8 @@ fn answer_of_table(reading: u8, knots: &[u8], readings: &[u8], cell: Cell) -> Re
     let row = row_of(readings)?;
     let mut items = TableList::new();
     items.push(table_of(reading, knots)?)?;
-    Ok(bytes_of(Tables { items }.enclosure(0, cell, &row)))
+    let tables = Tables { items, way: LessReading };
+    Ok(bytes_of(tables.enclosure(0, cell, &row)))
 }
 
 // Writes an answer's bytes at the start of out. A refusal leaves out as it was, as does an out that is too short.
@@ -143,8 +143,7 @@ fn write<const N: usize>(answer: Result<[u8; N], HostRefusal>, out: &mut [u8]) -
 
 // 0, or the refusal's number.
 fn number_of(done: Result<(), HostRefusal>) -> i64
-    ensures { OnErr done (result ≢ pos 0) }
-    
+    ensures { result ≡ number_given done }
 {
     match done {
         Ok(()) => 0,

@@ -1,5 +1,5 @@
 // Why a call from the host is refused, and the refusal's number.
-ghost use Rattle.std.specs.Prelude.{◌≡◌};
+ghost use Rattle.std.specs.Prelude.{◌≡◌, pos};
 ghost use Rattle.hostcall.specs.declared.refusals.HostRefusal.TheVariants.{Malformed, Line, Reading, Table};
 ghost use Rattle.hostcall.specs.Numbers.{number_of};
 
@@ -48,7 +48,7 @@ impl From<TableRefusal> for HostRefusal {
 }
 
 impl From<HostRefusal> for i64 {
-    ghost from_gives = { λ refusal n. n ≡ number_of refusal };
+    ghost from_gives = { λ refusal n. n ≡ pos (number_of refusal) };
 
     fn from(refusal: HostRefusal) -> i64 {
         match refusal {
