@@ -86,11 +86,5 @@ pub ≡_cancel : (a b c : ℤ) → pos 0 <ℤ c → a *ℤ c ≡ b *ℤ c → a 
 ≡_cancel a b c k e = let p = ≤ℤ_cancel a b c k (omega (arith, linear)) in let q = ≤ℤ_cancel b a c k (omega (arith, linear)) in omega (arith, linear)
 
 -- ---- sizes
-pub abs_bounds : (a : ℤ) (n : ℕ) → nat_abs a ≤ n → (neg_ℤ (pos n) ≤ℤ a) × (a ≤ℤ pos n)
-abs_bounds a n h = (omega (arith, ints), omega (arith, ints))
-
-pub bounds_abs : (a : ℤ) (n : ℕ) → neg_ℤ (pos n) ≤ℤ a → a ≤ℤ pos n → nat_abs a ≤ n
-bounds_abs a n h k = omega (arith, ints)
-
 pub product_size : (a b : ℤ) (m n : ℕ) → nat_abs a ≤ m → nat_abs b ≤ n → nat_abs (a *ℤ b) ≤ m * n
 product_size a b m n h k = rw (unsigned_abs-mul a b) (mul-le-mul h k)
