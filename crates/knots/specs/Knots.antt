@@ -1,5 +1,6 @@
 -- Which knots may make a table, and why others are refused.
 use Rattle.std.specs.Prelude.{ℕ, Bool, true, cond, ◌&&◌, List, [], ◌∷◌, length, neg_ℤ, Some, None, Option, int_le, int_lt, nat_le}
+use Rattle.std.specs.List.{list_all}
 use Rattle.interval.specs.Rules.{within}
 use Rattle.family.specs.Cells.{span}
 use Rattle.knots.specs.declared.knots.Knot.{Knot}
@@ -21,8 +22,7 @@ abbrev pub ranged : Knot → Bool
 ranged k = (int_le (neg_ℤ span) k.x && int_le k.x span) && within k.y
 
 abbrev pub all_ranged : List Knot → Bool
-all_ranged [] = true
-all_ranged (k ∷ ks) = ranged k && all_ranged ks
+all_ranged ks = list_all ranged ks
 
 -- each x lies to the right of the one before
 abbrev pub ascend_from : Knot → List Knot → Bool

@@ -1,11 +1,11 @@
-// The enclosure of a table less its reading, and the family of tables.
+// The enclosure of a table less its reading.
 ghost use Rattle.std.specs.Prelude.{◌≡◌};
-ghost use Rattle.tables.specs.Family.{table_curve, table_count, table_value, table_answer};
-ghost use Rattle.tables.specs.FamilyLaw.{tables_lawful};
+ghost use Rattle.tables.specs.Family.{height_less, table_curve};
+ghost use Rattle.tables.specs.FamilyLaw.{table_law};
 
-use crate::curves::Tables;
+use crate::curves::LessReading;
 use family::cells::Cell;
-use family::families::Family;
+use family::curves::Enclosing;
 use family::rows::{Row, reading_at, reading_pair};
 use interval::enclosures::Enclosure;
 use knots::tables::KnotTable;
@@ -22,26 +22,14 @@ pub fn table_enclosure(table: &KnotTable, cell: Cell, row: &Row) -> Enclosure
     height.sub(reading_pair(reading_at(row, table.reading())))
 }
 
-impl Family for Tables {
-    ghost count = { table_count };
+impl Enclosing<KnotTable> for LessReading {
+    ghost value = { height_less };
 
-    ghost value = { table_value };
+    ghost answer = { table_curve };
 
-    ghost answer = { table_answer };
+    ghost laws = { table_law };
 
-    ghost laws = { tables_lawful };
-
-    fn curves(&self) -> usize {
-        self.tables.len()
-    }
-
-    fn enclosure(&self, k: usize, cell: Cell, row: &Row) -> Enclosure {
-        if !cell.exists() {
-            return Enclosure::NoBounds;
-        }
-        let Some(table) = self.tables.get(k) else {
-            return Enclosure::NoBounds;
-        };
+    fn enclosure(&self, table: &KnotTable, cell: Cell, row: &Row) -> Enclosure {
         table_enclosure(table, cell, row)
     }
 }

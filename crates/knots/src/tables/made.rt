@@ -1,21 +1,19 @@
 // Tables made from their knots, and the refusals' numbers.
-ghost use Rattle.std.specs.Prelude.{◌≡◌, int_lt};
-ghost use Rattle.knots.specs.Knots.{number_of, ranged, all_ranged, ascending, lined};
+ghost use Rattle.std.specs.Prelude.{◌≡◌};
+ghost use Rattle.knots.specs.Knots.{number_of, ranged, all_ranged, ascending};
 ghost use Rattle.knots.specs.Tables.{knots_of, Made};
 
 use crate::knots::{Knot, TableRefusal};
-use crate::tables::{KNOTS, KnotTable};
+use crate::tables::KnotTable;
+use bounded::lists::Bounded;
+use family::cells::SPAN;
+use interval::enclosures::LIMIT;
 
-// Openings lie from -SPAN to SPAN, heights from -LIMIT to LIMIT.
-const SPAN: i32 = 1_000_000;
+impl From<TableRefusal> for u8 {
+    ghost from_gives = { λ refusal n. n ≡ number_of refusal };
 
-const LIMIT: i32 = 2_000_000_000;
-
-impl TableRefusal {
-    pub fn number(self) -> u8
-        ensures { result ≡ number_of self }
-    {
-        match self {
+    fn from(refusal: TableRefusal) -> u8 {
+        match refusal {
             TableRefusal::Reading => 24,
             TableRefusal::Range => 25,
             TableRefusal::Knots => 28,
@@ -29,46 +27,18 @@ impl Knot {
     {
         -SPAN <= self.x && self.x <= SPAN && -LIMIT <= self.y && self.y <= LIMIT
     }
-
-    fn is_left_of(self, other: Knot) -> bool
-        ensures { result ≡ int_lt self.x other.x }
-    {
-        self.x < other.x
-    }
 }
 
 fn are_ranged(knots: &[Knot]) -> bool
     ensures { result ≡ all_ranged knots.now }
 {
-    for knot in knots {
-        if !knot.is_ranged() {
-            return false;
-        }
-    }
-    true
+    knots.iter().all(|knot| knot.is_ranged())
 }
 
 fn are_ascending(knots: &[Knot]) -> bool
     ensures { result ≡ ascending knots.now }
 {
-    let [first, rest @ ..] = knots else {
-        return true;
-    };
-    let mut before = *first;
-    for knot in rest {
-        if !before.is_left_of(*knot) {
-            return false;
-        }
-        before = *knot;
-    }
-    true
-}
-
-// As many knots as a table may have, in order.
-fn are_lined(knots: &[Knot]) -> bool
-    ensures { result ≡ lined knots.now }
-{
-    2 <= knots.len() && knots.len() <= KNOTS && are_ascending(knots)
+    knots.is_sorted_by(|left, right| left.x < right.x)
 }
 
 impl KnotTable {
@@ -82,17 +52,13 @@ impl KnotTable {
         if !are_ranged(knots) {
             return Err(TableRefusal::Range);
         }
-        if !are_lined(knots) {
+        let held = Bounded::try_from(knots).map_err(|_| TableRefusal::Knots)?;
+        if knots.len() < 2 || !are_ascending(knots) {
             return Err(TableRefusal::Knots);
-        }
-        let mut places = [Knot { x: 0, y: 0 }; KNOTS];
-        for n in 0..knots.len() {
-            places[n] = knots[n];
         }
         Ok(KnotTable {
             reading,
-            knots: places,
-            len: knots.len(),
+            knots: held,
         })
     }
 
@@ -107,6 +73,6 @@ impl KnotTable {
     pub fn knots(&self) -> &[Knot]
         ensures { result.now ≡ knots_of self.now }
     {
-        &self.knots[0..self.len]
+        self.knots.as_slice()
     }
 }
