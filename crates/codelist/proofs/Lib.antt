@@ -1,4 +1,3 @@
 pub mod Listing
 pub mod Stepping
-pub mod LastLine
 pub mod Worked

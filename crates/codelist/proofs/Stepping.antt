@@ -1,5 +1,5 @@
 -- A turn of the run: the table's first places are the entries of the lines so far.
-use Rattle.std.proofs.Common.{◌≡◌, ℕ, ◌+◌, ◌<◌, ◌≤◌, true, ◌&&◌, ltb, List, [], ◌∷◌, ◌++◌, length, get_or, take, set, sym, refl, ap, ◌∙◌, arith, take_all, ltb-true}
+use Rattle.std.proofs.Common.{◌≡◌, ℕ, ◌+◌, ◌<◌, true, ◌&&◌, ltb, List, [], ◌∷◌, ◌++◌, length, get_or, take, set, sym, refl, ap, ◌∙◌, ltb-true}
 use Rattle.std.proofs.lemmas.Bool.{and_parts}
 use Rattle.std.proofs.lemmas.List.{take_more, take_more_set, get_or-take}
 use Rattle.codelist.specs.declared.lines.Line.{Line}
@@ -29,18 +29,13 @@ module _ {E : Type 0} (o : Operations E) (d : E → E → E) where
       let b' = and_parts (ltb q n) (ltb r n) b.1 in
       λ k. o.chi (get_or-take n es s o.blank (ltb-true s n b.0) k) (get_or-take n es q o.blank (ltb-true q n b'.0) k) (get_or-take n es r o.blank (ltb-true r n b'.1) k)
 
-  -- the table es after the line l of number n is filled in
-  pub next : (ls : List Line) (es es' : List E) (n : ℕ) (x l : Line) → n < length ls → n < length es → get_or ls n x ≡ l → earlier n l ≡ true
-      → take n es ≡ entries o d (take n ls) → es' ≡ set es n (entry o d l es) → take (n + 1) es' ≡ entries o d (take (n + 1) ls)
-  next ls es es' n x l h k is ok front filled =
-      ap (take (n + 1)) filled
-      ∙ take_more_set es n (entry o d l es) k
+  -- the table es after the entry of line number n is put into its place
+  pub next : (ls : List Line) (es : List E) (n : ℕ) (x : Line) → n < length ls → n < length es → earlier n (get_or ls n x) ≡ true
+      → take n es ≡ entries o d (take n ls) → take (n + 1) (set es n (entry o d (get_or ls n x) es)) ≡ entries o d (take (n + 1) ls)
+  next ls es n x h k ok front =
+      let l = get_or ls n x in
+      take_more_set es n (entry o d l es) k
       ∙ sym (λ i. take n es ++ (entry_front es n l ok i ∷ []))
       ∙ (λ i. front i ++ (entry o d l (front i) ∷ []))
       ∙ sym (onward-append [] (take n ls) (l ∷ []))
-      ∙ ap (entries o d) (sym (λ i. take n ls ++ (is i ∷ [])) ∙ sym (take_more ls n x h))
-
-  pub finished : (ls lines : List Line) (es : List E) (n : ℕ) → lines ≡ ls → length lines ≤ n → n ≤ length lines → take n es ≡ entries o d (take n lines) → take (length ls) es ≡ entries o d ls
-  finished ls lines es n is h k front =
-      let e : length ls ≡ n = sym (ap length is) ∙ omega arith in
-      ap (λ (m : ℕ). take m es) e ∙ front ∙ ap (entries o d) (take_all n lines h ∙ is)
+      ∙ ap (entries o d) (sym (take_more ls n x h))

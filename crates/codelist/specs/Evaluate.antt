@@ -1,5 +1,5 @@
 -- Running the lines of a list over any operations: one definition serves exact values and every kind of entry.
-use Rattle.std.specs.Prelude.{ℕ, List, [], ◌∷◌, ◌++◌, ℤ, slice_index_or}
+use Rattle.std.specs.Prelude.{ℕ, ◌-◌, List, [], ◌∷◌, ◌++◌, length, ℤ, slice_index_or}
 use Rattle.codelist.specs.declared.lines.Line.{Line}
 use Rattle.codelist.specs.declared.lines.Line.TheVariants.{X, C, R, Neg, Abs, Add, Sub, Mul, Div, Max, Chi}
 
@@ -40,3 +40,7 @@ module _ {E : Type 0} (o : Operations E) (divide : E → E → E) where
 
   abbrev pub entries : List Line → List E
   entries ls = onward [] ls
+
+  -- the entry of the last line
+  abbrev pub last_entry : List Line → E
+  last_entry ls = slice_index_or (entries ls) (length ls - 1) o.blank

@@ -1,5 +1,5 @@
 -- The law of the interval kind, from the laws of the rules on enclosures.
-use Rattle.std.specs.Prelude.{◌≡◌, length, Some, None, Option, refl}
+use Rattle.std.specs.Prelude.{Some, None, Option, refl}
 use Rattle.std.proofs.Common.{arith}
 use Rattle.std.proofs.lemmas.Int.{ints}
 use Rattle.exact.specs.Fraction.{Fraction, whole, in_units}
@@ -11,13 +11,8 @@ use Rattle.family.specs.declared.readings.Reading.{Reading}
 use Rattle.family.specs.Cells.{middle}
 use Rattle.family.proofs.Inside.{units_between, middle-inside}
 use Rattle.family.specs.Readings.{reading_pair, Allows}
-use Rattle.codelist.specs.declared.intervals.Intervals.{Intervals}
-use Rattle.codelist.specs.Bound.{line_limit}
 use Rattle.codelist.specs.Kinds.{KindLaw, DivideLaw}
-use Rattle.codelist.specs.Intervals.{table_of, pair_rules, pair_vouches}
-
-pub pair_sized : (s : Intervals) → length (table_of s) ≡ line_limit
-pair_sized s = s.sized
+use Rattle.codelist.specs.Intervals.{pair_rules, pair_vouches}
 
 pub pair_law : KindLaw pair_rules pair_vouches
 pair_law = record {

@@ -1,15 +1,10 @@
 -- The interval kind: enclosures with the rules on enclosures.
-use Rattle.std.specs.Prelude.{List}
 use Rattle.interval.specs.declared.enclosures.Enclosure.{Enclosure}
 use Rattle.interval.specs.declared.enclosures.Enclosure.TheVariants.{NoBounds, Bounds}
 use Rattle.interval.specs.Rules.{neg, add, sub, mul, abs, max, chi, held}
 use Rattle.interval.specs.Meaning.{Holds}
 use Rattle.family.specs.Readings.{reading_pair}
-use Rattle.codelist.specs.declared.intervals.Intervals.{Intervals}
 use Rattle.codelist.specs.Kinds.{Rules, Vouching}
-
-abbrev pub table_of : Intervals → List Enclosure
-table_of s = s.entries
 
 -- X is the cell, C v is [v,v]
 abbrev pub pair_rules : Rules Enclosure

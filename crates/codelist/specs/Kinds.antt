@@ -1,12 +1,11 @@
 -- What a kind of value is: its rules, what an entry vouches for, and the law that ties them.
-use Rattle.std.specs.Prelude.{◌≡◌, true, List, ℤ, Option, slice_index_or, slice_set}
+use Rattle.std.specs.Prelude.{◌≡◌, true, ℤ, Option}
 use Rattle.exact.specs.Fraction.{Fraction, whole, in_units, plus, minus, negated, times, absolute, larger}
 use Rattle.exact.specs.Value.{Value, none, some, each, both, quotient, choice}
 use Rattle.family.specs.declared.cells.Cell.{Cell}
 use Rattle.family.specs.declared.readings.Reading.{Reading}
 use Rattle.family.specs.Cells.{exists, middle, InCell}
 use Rattle.family.specs.Readings.{RowOf, reading_at, Allows}
-use Rattle.codelist.specs.declared.places.Place.{Place}
 use Rattle.codelist.specs.Evaluate.{Operations}
 
 -- the rules of a kind; division stands apart
@@ -60,16 +59,3 @@ pub record KindLaw {E : Type 0} (r : Rules E) (vouches : Vouching E) : Type 0 wh
 -- the same for division
 pub record DivideLaw {E : Type 0} (divide : E → E → E) (vouches : Vouching E) : Type 0 where
   pub div : (c : Cell) (p : Fraction) (e f : E) (v w v' w' : Value) → vouches e c p v w → vouches f c p v' w' → vouches (divide e f) c p (quotient v v') (quotient w w')
-
--- ---- the table after an operation: the named entry is filled, no other is touched
-abbrev pub fill : {E : Type 0} → List E → Place → E → List E
-fill es at e = slice_set es at.n e
-
-abbrev pub fill1 : {E : Type 0} → E → (E → E) → List E → Place → Place → List E
-fill1 b f es at i = fill es at (f (slice_index_or es i.n b))
-
-abbrev pub fill2 : {E : Type 0} → E → (E → E → E) → List E → Place → Place → Place → List E
-fill2 b f es at i j = fill es at (f (slice_index_or es i.n b) (slice_index_or es j.n b))
-
-abbrev pub fill3 : {E : Type 0} → E → (E → E → E → E) → List E → Place → Place → Place → Place → List E
-fill3 b f es at s q r = fill es at (f (slice_index_or es s.n b) (slice_index_or es q.n b) (slice_index_or es r.n b))

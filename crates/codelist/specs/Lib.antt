@@ -1,5 +1,6 @@
 pub mod Bound
 pub mod Lines
+pub mod Text
 pub mod Lists
 pub mod Evaluate
 pub mod Exact
@@ -8,6 +9,5 @@ pub mod Runs
 pub mod RunLaw
 pub mod Intervals
 pub mod IntervalLaw
-pub mod Tables
 pub mod Plain
 pub mod PlainLaw

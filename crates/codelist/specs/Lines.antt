@@ -1,5 +1,5 @@
 -- Which lines may stand in a list, and why others are refused.
-use Rattle.std.specs.Prelude.{ℕ, suc, Bool, true, cond, ◌&&◌, List, [], ◌∷◌, Some, None, Option, nat_le, nat_lt}
+use Rattle.std.specs.Prelude.{ℕ, suc, Bool, true, cond, ◌&&◌, List, [], ◌∷◌, Some, None, Ok, Err, Option, Result, nat_le, nat_lt}
 use Rattle.interval.specs.Rules.{within}
 use Rattle.codelist.specs.declared.lines.Line.{Line}
 use Rattle.codelist.specs.declared.lines.Line.TheVariants.{X, C, R, Neg, Abs, Add, Sub, Mul, Div, Max, Chi}
@@ -40,6 +40,10 @@ ranged (Mul i j) = true
 ranged (Div i j) = true
 ranged (Max i j) = true
 ranged (Chi s q r) = true
+
+-- whether a line may be line number k, whatever room there is
+abbrev pub fit : ℕ → Line → Result (Unit {0}) LineRefusal
+fit k l = cond (earlier k l) (cond (ranged l) (Ok tt) (Err Constant)) (Err Operand)
 
 -- why a line is refused as line number k; the first cause in this order is told
 abbrev pub fault : ℕ → Line → Option LineRefusal

@@ -1,12 +1,13 @@
 -- A code list as the list of its lines, and what adding a line gives.
-use Rattle.std.specs.Prelude.{◌≡◌, List, [], ◌∷◌, ◌++◌, length, take, Some, None, Ok, Err, Option, Result}
+use Rattle.std.specs.Prelude.{◌≡◌, List, [], ◌∷◌, ◌++◌, length, Some, None, Ok, Err, Option, Result}
+use Rattle.bounded.specs.Lists.{items_of}
 use Rattle.codelist.specs.declared.lines.Line.{Line}
 use Rattle.codelist.specs.declared.lines.LineRefusal.{LineRefusal}
 use Rattle.codelist.specs.declared.lists.CodeList.{CodeList}
 use Rattle.codelist.specs.Lines.{fault}
 
 abbrev pub lines_of : CodeList → List Line
-lines_of c = take c.len c.lines
+lines_of c = items_of c.lines
 
 -- a list begun with a line that may stand first; otherwise the refusal
 abbrev pub Begun : Line → Result CodeList LineRefusal → Type 0

@@ -1,25 +1,18 @@
-// What a kind of value is: a table of entries, one for each line, and one method for each operation, which names the line that
-// it fills and the lines that it reads. The ghost members are the kind's rules and what its entries vouch for.
-ghost use Rattle.std.specs.Prelude.{◌≡◌, List, length, ℤ};
-ghost use Rattle.codelist.specs.Bound.{line_limit};
-ghost use Rattle.codelist.specs.Kinds.{Rules, Vouching, KindLaw, DivideLaw, fill, fill1, fill2, fill3};
+// What a kind of value is: a type of entries, and one function for each operation on them. The ghost members are the kind's rules and
+// what its entries vouch for.
+ghost use Rattle.std.specs.Prelude.{◌≡◌, ℤ};
+ghost use Rattle.codelist.specs.Kinds.{Rules, Vouching, KindLaw, DivideLaw};
 
-use crate::places::Place;
 use family::cells::Cell;
 use family::readings::Reading;
 
 pub trait Kind {
-    type Entry;
+    type Entry: Copy;
 
     // The largest size of an end of an entry, in counts.
     const LARGEST: i64;
 
-    ghost bound: { ℤ };
-
-    // The table: an entry for each line.
-    ghost table: { Self → List Self.Entry };
-
-    ghost sized: { (s : Self) → length (table s) ≡ line_limit };
+    ghost LARGEST: { ℤ };
 
     ghost rules: { Rules Self.Entry };
 
@@ -32,40 +25,40 @@ pub trait Kind {
 
     ghost division: { DivideLaw divided vouches };
 
-    // That size, as a contract can cite it.
-    fn bound() -> i64
-        ensures { result ≡ bound };
+    // What stands in the place of a line that is not filled yet.
+    fn blank() -> Self::Entry
+        ensures { result ≡ rules.blank };
 
-    fn x(&mut self, at: Place, cell: Cell)
-        ensures { table self.new ≡ fill (table self.old) at (rules.x cell) };
+    fn x(cell: Cell) -> Self::Entry
+        ensures { result ≡ rules.x cell };
 
-    fn constant(&mut self, at: Place, v: i32)
-        ensures { table self.new ≡ fill (table self.old) at (rules.constant v) };
+    fn constant(v: i32) -> Self::Entry
+        ensures { result ≡ rules.constant v };
 
-    fn reading(&mut self, at: Place, r: Option<Reading>)
-        ensures { table self.new ≡ fill (table self.old) at (rules.reading r) };
+    fn reading(r: Option<Reading>) -> Self::Entry
+        ensures { result ≡ rules.reading r };
 
-    fn neg(&mut self, at: Place, i: Place)
-        ensures { table self.new ≡ fill1 rules.blank rules.neg (table self.old) at i };
+    fn neg(e: Self::Entry) -> Self::Entry
+        ensures { result ≡ rules.neg e };
 
-    fn abs(&mut self, at: Place, i: Place)
-        ensures { table self.new ≡ fill1 rules.blank rules.abs (table self.old) at i };
+    fn abs(e: Self::Entry) -> Self::Entry
+        ensures { result ≡ rules.abs e };
 
-    fn add(&mut self, at: Place, i: Place, j: Place)
-        ensures { table self.new ≡ fill2 rules.blank rules.add (table self.old) at i j };
+    fn add(e: Self::Entry, f: Self::Entry) -> Self::Entry
+        ensures { result ≡ rules.add e f };
 
-    fn sub(&mut self, at: Place, i: Place, j: Place)
-        ensures { table self.new ≡ fill2 rules.blank rules.sub (table self.old) at i j };
+    fn sub(e: Self::Entry, f: Self::Entry) -> Self::Entry
+        ensures { result ≡ rules.sub e f };
 
-    fn mul(&mut self, at: Place, i: Place, j: Place)
-        ensures { table self.new ≡ fill2 rules.blank rules.mul (table self.old) at i j };
+    fn mul(e: Self::Entry, f: Self::Entry) -> Self::Entry
+        ensures { result ≡ rules.mul e f };
 
-    fn max(&mut self, at: Place, i: Place, j: Place)
-        ensures { table self.new ≡ fill2 rules.blank rules.max (table self.old) at i j };
+    fn max(e: Self::Entry, f: Self::Entry) -> Self::Entry
+        ensures { result ≡ rules.max e f };
 
-    fn chi(&mut self, at: Place, s: Place, q: Place, r: Place)
-        ensures { table self.new ≡ fill3 rules.blank rules.chi (table self.old) at s q r };
+    fn chi(s: Self::Entry, q: Self::Entry, r: Self::Entry) -> Self::Entry
+        ensures { result ≡ rules.chi s q r };
 
-    fn div(&mut self, at: Place, i: Place, j: Place)
-        ensures { table self.new ≡ fill2 rules.blank divided (table self.old) at i j };
+    fn div(e: Self::Entry, f: Self::Entry) -> Self::Entry
+        ensures { result ≡ divided e f };
 }

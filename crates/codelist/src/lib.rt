@@ -1,7 +1,7 @@
 // Code lists: a curve as lines of arithmetic, its exact value, and running it over any kind of value.
 #![tactic(auto)]
 
-pub mod curves;
+pub mod entries;
 pub mod intervals;
 pub mod kinds;
 pub mod lines;
@@ -9,23 +9,26 @@ pub mod lists;
 pub mod places;
 pub mod plain;
 pub mod running;
-pub mod tables;
 
 #[cfg(test)]
 mod tests {
-    use crate::curves::Lists;
+    use crate::intervals::Intervals;
     use crate::lines::{Line, LineRefusal};
-    use crate::lists::CodeList;
-    use crate::tables::ListTable;
+    use crate::lists::{CodeList, ListTable};
+    use crate::plain::Lists;
     use family::cells::Cell;
     use family::families::Family;
     use interval::enclosures::Enclosure;
     use std::test::Fail;
 
     fn over_one_to_two(list: CodeList) -> Enclosure {
-        let mut table = ListTable::new();
-        let _taken = table.push(list);
-        Lists { table }.enclosure(0, Cell { lo: 1000, hi: 2000 }, &[None; 8])
+        let mut items = ListTable::new();
+        let _taken = items.push(list);
+        let lists = Lists {
+            items,
+            way: Intervals,
+        };
+        lists.enclosure(0, Cell { lo: 1000, hi: 2000 }, &[None; 8])
     }
 
     #[test]

@@ -28,3 +28,6 @@ pub enum LineRefusal {
     // the list has as many lines as it may have
     Full,
 }
+
+mod fitting;
+mod printed;

@@ -1,5 +1,5 @@
 // The number of a line in a table of entries: it can only be made below the largest number of lines.
-ghost use Rattle.std.specs.Prelude.{◌≡◌, ◌<◌};
+ghost use Rattle.std.specs.Prelude.{◌≡◌, ◌-◌, ◌<◌, min};
 ghost use Rattle.codelist.specs.Bound.{line_limit};
 
 // A list has at most so many lines.
@@ -11,4 +11,20 @@ pub struct Place {
     ghost below: { n < line_limit },
 }
 
-pub mod made;
+impl Place {
+    // The place of that number, or the last place where there is no such line.
+    pub fn clamped(n: usize) -> Place
+        ensures { result.n ≡ min n (line_limit - 1) }
+    {
+        Place {
+            n: n.min(LINES - 1),
+        }
+    }
+
+    pub fn index(self) -> usize
+        ensures value { result ≡ self.n }
+        ensures below { result < line_limit }
+    {
+        self.n
+    }
+}

@@ -1,38 +1,29 @@
-// The family of plain lists: the enclosure of a curve is the entry of its last line, run over the interval kind.
-ghost use Rattle.codelist.specs.Plain.{plain_count, plain_value, plain_answer};
-ghost use Rattle.codelist.specs.PlainLaw.{plain_lawful};
+// Plain lists as a family: the enclosure of a curve is the entry of its last line, run over the interval kind.
+ghost use Rattle.codelist.specs.Plain.{list_value, list_answer};
+ghost use Rattle.codelist.specs.PlainLaw.{plain_law};
 
-use crate::curves::Lists;
+use crate::entries::Table;
 use crate::intervals::Intervals;
-use crate::places::Place;
+use crate::kinds::Kind;
+use crate::lists::CodeList;
 use crate::running::run;
 use family::cells::Cell;
-use family::families::Family;
+use family::curves::{Curves, Enclosing};
 use family::rows::Row;
 use interval::enclosures::Enclosure;
 
-impl Family for Lists {
-    ghost count = { plain_count };
+// A family of curves given as code lists.
+pub type Lists = Curves<CodeList, Intervals>;
 
-    ghost value = { plain_value };
+impl Enclosing<CodeList> for Intervals {
+    ghost value = { list_value };
 
-    ghost answer = { plain_answer };
+    ghost answer = { list_answer };
 
-    ghost laws = { plain_lawful };
+    ghost laws = { plain_law };
 
-    fn curves(&self) -> usize {
-        self.table.len()
-    }
-
-    fn enclosure(&self, k: usize, cell: Cell, row: &Row) -> Enclosure {
-        if !cell.exists() {
-            return Enclosure::NoBounds;
-        }
-        let Some(list) = self.table.get(k) else {
-            return Enclosure::NoBounds;
-        };
-        let mut kind = Intervals::new();
-        run(&mut kind, list, cell, row);
-        kind.entry(Place::clamped(list.lines().len().saturating_sub(1)))
+    fn enclosure(&self, list: &CodeList, cell: Cell, row: &Row) -> Enclosure {
+        let mut table = Table::new(Intervals::blank());
+        run::<Intervals>(&mut table, list, cell, row)
     }
 }

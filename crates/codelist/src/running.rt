@@ -1,51 +1,69 @@
 // Running a list over any kind of value.
-ghost use Rattle.std.specs.Prelude.{◌≡◌, true, length, take, drop};
-ghost use Rattle.codelist.specs.Lines.{earlier};
+ghost use Rattle.std.specs.Prelude.{◌≡◌, length, take, drop, slice_index_or};
 ghost use Rattle.codelist.specs.Lists.{lines_of};
-ghost use Rattle.codelist.specs.Evaluate.{entry, entries};
-ghost use Rattle.codelist.specs.Kinds.{over, fill};
+ghost use Rattle.codelist.specs.Evaluate.{entry, entries, last_entry};
+ghost use Rattle.codelist.specs.Kinds.{over};
 ghost use Rattle.codelist.specs.Runs.{Vouched};
 
+use crate::entries::Table;
 use crate::kinds::Kind;
 use crate::lines::Line;
 use crate::lists::CodeList;
-use crate::places::Place;
+use crate::places::{LINES, Place};
 use family::cells::Cell;
 use family::rows::{Row, reading_at};
 
-// Fills the place of one line.
-fn fill_line<K: Kind>(kind: &mut K, at: Place, line: Line, cell: Cell, row: &Row)
-    requires { earlier at.n line ≡ true }
-    ensures { K.Kind.table kind.new ≡ fill (K.Kind.table kind.old) at (entry (over K.Kind.rules cell row.now) K.Kind.divided line (K.Kind.table kind.old)) }
-{
-    match line {
-        Line::X => kind.x(at, cell),
-        Line::C(v) => kind.constant(at, v),
-        Line::R(n) => kind.reading(at, reading_at(row, n)),
-        Line::Neg(i) => kind.neg(at, Place::clamped(i as usize)),
-        Line::Abs(i) => kind.abs(at, Place::clamped(i as usize)),
-        Line::Add(i, j) => kind.add(at, Place::clamped(i as usize), Place::clamped(j as usize)),
-        Line::Sub(i, j) => kind.sub(at, Place::clamped(i as usize), Place::clamped(j as usize)),
-        Line::Mul(i, j) => kind.mul(at, Place::clamped(i as usize), Place::clamped(j as usize)),
-        Line::Div(i, j) => kind.div(at, Place::clamped(i as usize), Place::clamped(j as usize)),
-        Line::Max(i, j) => kind.max(at, Place::clamped(i as usize), Place::clamped(j as usize)),
-        Line::Chi(s, q, r) => kind.chi(
-            at,
-            Place::clamped(s as usize),
-            Place::clamped(q as usize),
-            Place::clamped(r as usize),
-        ),
+impl<E: Copy> Table<E> {
+    // What an operand reads: the entry of the line that it names, or blank where no line is.
+    fn read(&self, i: u8, blank: E) -> E
+        ensures { result ≡ slice_index_or self.now.entries i blank }
+    {
+        let i = i as usize;
+        if i < LINES {
+            self.entry(Place::clamped(i))
+        } else {
+            blank
+        }
     }
 }
 
-// Runs a list: the entry of each line into its place. What stands in later places stays.
-pub fn run<K: Kind>(kind: &mut K, list: &CodeList, cell: Cell, row: &Row)
-    ensures entries { take (length (lines_of list.now)) (K.Kind.table kind.new) ≡ entries (over K.Kind.rules cell row.now) K.Kind.divided (lines_of list.now) }
-    ensures rest { drop (length (lines_of list.now)) (K.Kind.table kind.new) ≡ drop (length (lines_of list.now)) (K.Kind.table kind.old) }
-    ensures vouched { Vouched K.Kind.vouches K.Kind.rules.blank (K.Kind.table kind.new) (lines_of list.now) cell row.now }
+// The entry of a line, from those of the lines before it.
+fn entry_of<K: Kind>(table: &Table<K::Entry>, line: Line, cell: Cell, row: &Row) -> K::Entry
+    ensures { result ≡ entry (over K.rules cell row.now) K.divided line table.now.entries }
+{
+    let blank = K::blank();
+    match line {
+        Line::X => K::x(cell),
+        Line::C(v) => K::constant(v),
+        Line::R(n) => K::reading(reading_at(row, n)),
+        Line::Neg(i) => K::neg(table.read(i, blank)),
+        Line::Abs(i) => K::abs(table.read(i, blank)),
+        Line::Add(i, j) => K::add(table.read(i, blank), table.read(j, blank)),
+        Line::Sub(i, j) => K::sub(table.read(i, blank), table.read(j, blank)),
+        Line::Mul(i, j) => K::mul(table.read(i, blank), table.read(j, blank)),
+        Line::Div(i, j) => K::div(table.read(i, blank), table.read(j, blank)),
+        Line::Max(i, j) => K::max(table.read(i, blank), table.read(j, blank)),
+        Line::Chi(s, q, r) => {
+            K::chi(
+                table.read(s, blank),
+                table.read(q, blank),
+                table.read(r, blank),
+            )
+        }
+    }
+}
+
+// Runs a list: the entry of each line into its place, and the last line's as the answer. What stands in later places stays.
+pub fn run<K: Kind>(table: &mut Table<K::Entry>, list: &CodeList, cell: Cell, row: &Row) -> K::Entry
+    ensures entries { take (length (lines_of list.now)) table.new.entries ≡ entries (over K.rules cell row.now) K.divided (lines_of list.now) }
+    ensures rest { drop (length (lines_of list.now)) table.new.entries ≡ drop (length (lines_of list.now)) table.old.entries }
+    ensures vouched { Vouched K.vouches K.rules.blank table.new.entries (lines_of list.now) cell row.now }
+    ensures last { result ≡ last_entry (over K.rules cell row.now) K.divided (lines_of list.now) }
 {
     let lines = list.lines();
-    for n in 0..lines.len() {
-        fill_line(kind, Place::clamped(n), lines[n], cell, row);
+    for (n, line) in lines.iter().enumerate() {
+        let e = entry_of::<K>(table, *line, cell, row);
+        table.put(Place::clamped(n), e);
     }
+    table.entry(Place::clamped(lines.len().saturating_sub(1)))
 }

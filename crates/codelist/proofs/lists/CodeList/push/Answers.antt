@@ -1,23 +1,10 @@
-use Rattle.std.proofs.Common.{◌∙◌, arith, length-set}
-use Rattle.codelist.proofs.Listing.{room_left, still_valid, push-taken, push_lines}
+use Rattle.std.proofs.Common.{ap, ◌∙◌, is_ok}
+use Rattle.codelist.specs.Lines.{valid}
+use Rattle.codelist.specs.Lists.{lines_of}
+use Rattle.codelist.proofs.Listing.{still_valid}
 use Rattle.codelist.proofs.lists.CodeList.push.Goals as goal
 
-pub invariant_of-self : goal.invariant_of-self
-invariant_of-self c =
+pub invariant_of-self-clause-sound : goal.invariant_of-self-clause-sound
+invariant_of-self-clause-sound c =
     let s = c.args.self.now in
-    let e = c.in_default.ensures in
-    record {
-      sized = length-set s.lines s.len c.args.line ∙ s.sized;
-      some = omega arith;
-      few = room_left s.lines s.len c.args.line s.sized s.few e;
-      sound = still_valid s.lines s.len c.args.line s.sized s.few e s.sound;
-    }
-
-pub returns : goal.returns
-returns c =
-    let s = c.args.self.now in
-    let e = c.in_default.ensures in
-    record {
-      answer = push-taken s.lines s.len c.args.line s.sized s.few e;
-      after = push_lines s.lines s.len c.args.line s.sized s.few e;
-    }
+    ap (valid 0) c.push.ensures.after ∙ still_valid (lines_of s) c.args.line c.len.result (is_ok c.push.result) s.sound c.len.ensures c.in_ok-fits.ensures
