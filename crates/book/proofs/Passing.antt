@@ -1,21 +1,33 @@
 -- Passing over operands, and the steps of the reading at a place in the book.
-use Rattle.std.proofs.Common.{◌≡◌, ℕ, zero, suc, ◌+◌, ◌-◌, ◌<◌, ◌≤◌, List, [], ◌∷◌, ◌++◌, length, get_or, take, drop, Ok, Err, sym, ap, ◌∙◌, subst, add-zero, arith}
+use Rattle.std.proofs.Common.{◌≡◌, ℕ, zero, suc, ◌+◌, ◌-◌, ◌<◌, ◌≤◌, List, [], ◌∷◌, ◌++◌, length, get_or, take, drop, Some, None, Ok, Err, Option, Result, sym, ap, ◌∙◌, subst, add-zero, arith}
 use Rattle.std.proofs.lemmas.List.{take_all, length-drop, drop-drop, drop_more, drop_all}
+use Rattle.std.specs.Option.{option_map}
 use Rattle.codelist.specs.declared.lines.Line.{Line}
+use Rattle.codelist.specs.declared.lines.LineRefusal.{LineRefusal}
+use Rattle.codelist.specs.Lines.{fault}
 use Rattle.codelist.specs.declared.lists.CodeList.{CodeList}
 use Rattle.codelist.specs.Lists.{lines_of}
 use Rattle.book.specs.declared.lines.Step.{Step}
-use Rattle.book.specs.declared.lines.Step.TheVariants.{Line as Longer, Close as Closed, Stop as Stopped}
+use Rattle.book.specs.declared.lines.Step.TheVariants.{Line as Longer, Close as Closed}
 use Rattle.book.specs.declared.refusals.Fault.{Fault}
+use Rattle.book.specs.declared.refusals.Refusal.{Refusal}
 use Rattle.book.specs.declared.refusals.Fault.TheVariants.{CutShort}
 use Rattle.book.specs.declared.refusals.Layer.{Layer}
-use Rattle.book.specs.declared.refusals.Layer.TheVariants.{Record as RecordLayer}
+use Rattle.book.specs.declared.refusals.Layer.TheVariants.{Record as RecordLayer, Line as LineLayer}
 use Rattle.book.specs.Reading.{Stepped}
-use Rattle.book.specs.Lines.{Inside, a_line, closes, stops, inside, refused, go_on, lines_from}
+use Rattle.book.specs.Lines.{fault_of, Inside, a_line, closes, stops, line_by, inside, refused, go_on, lines_from}
 
 -- the rest of a slice from a place on, as the code has it
 pub rest_is : (bs : List ℕ) (at : ℕ) → take (length bs - at) (drop at bs) ≡ drop at bs
 rest_is bs at = take_all (length bs - at) (drop at bs) (omega (arith, length-drop at bs))
+
+-- a line that may not stand in its list
+pub refused_line : (k : ℕ) (l : Line) (w : ℕ) (f : Fault) → option_map fault_of (fault k l) ≡ Some f → line_by (fault k l) l w ≡ stops f LineLayer
+refused_line k l w f e = by (fault k l) e
+  where
+    by : (o : Option LineRefusal) → option_map fault_of o ≡ Some f → line_by o l w ≡ stops f LineLayer
+    by None e = cc
+    by (Some r) e = let h : fault_of r ≡ f = cc in ap (λ (g : Fault). stops g LineLayer) h
 
 -- ---- the lines of a curve
 pub pass_lines : (ls : List Line) (w at : ℕ) (bs : List ℕ) → w ≤ length bs → lines_from ls w at bs ≡ lines_from ls 0 (at + w) (drop w bs)
@@ -56,23 +68,23 @@ pub left_open : (book : List ℕ) (ls : List Line) (at : ℕ) → length book �
 left_open book ls at h = ap (lines_from ls 0 at) (drop_all at book h)
 
 -- as the code has it: the step is told of the rest of the slice
+abbrev pub StepSays : List ℕ → List Line → ℕ → Step → Type 0
+StepSays book ls at step = Stepped ls at (take (length book - at) (drop at book)) (Ok step)
+
 module _ (book : List ℕ) (ls : List Line) (at : ℕ) (within : at < length book) where
   abbrev rest : List ℕ
   rest = take (length book - at) (drop at book)
 
-  there : (step : Step) → Stepped ls rest step → Stepped ls (drop at book) step
-  there step = subst (λ (bs : List ℕ). Stepped ls bs step) (rest_is book at)
+  there : (step : Result Step Refusal) → Stepped ls at rest step → Stepped ls at (drop at book) step
+  there step = subst (λ (bs : List ℕ). Stepped ls at bs step) (rest_is book at)
 
-  pub told_line : (c : CodeList) (w : ℕ) → Stepped ls rest (Longer c w) → lines_from ls 0 at (drop at book) ≡ lines_from (lines_of c) 0 (at + (1 + w)) (drop (at + (1 + w)) book)
+  pub told_line : (c : CodeList) (w : ℕ) → Stepped ls at rest (Ok (Longer c w)) → lines_from ls 0 at (drop at book) ≡ lines_from (lines_of c) 0 (at + (1 + w)) (drop (at + (1 + w)) book)
   told_line c w t =
-      let s = there (Longer c w) t in
+      let s = there (Ok (Longer c w)) t in
       line_more book ls at within s.0 w s.1.0 s.1.2 ∙ ap (λ (ms : List Line). lines_from ms 0 (at + (1 + w)) (drop (at + (1 + w)) book)) (sym s.1.1)
 
-  pub told_close : (c : CodeList) → Stepped ls rest (Closed c) → lines_from ls 0 at (drop at book) ≡ Ok (lines_of c, at)
-  told_close c t = let s = there (Closed c) t in line_closes book ls at within s.0 ∙ ap (λ (ms : List Line). Ok (ms, at)) (sym s.1)
+  pub told_close : (c : CodeList) → Stepped ls at rest (Ok (Closed c)) → lines_from ls 0 at (drop at book) ≡ Ok (lines_of c, at)
+  told_close c t = let s = there (Ok (Closed c)) t in line_closes book ls at within s.0 ∙ ap (λ (ms : List Line). Ok (ms, at)) (sym s.1)
 
-  pub told_stop : (f : Fault) (y : Layer) → Stepped ls rest (Stopped f y) → lines_from ls 0 at (drop at book) ≡ Err (refused f y at)
-  told_stop f y t = line_stops book ls at within f y (there (Stopped f y) t)
-
-  pub within_rest : (c : CodeList) (w : ℕ) → Stepped ls rest (Longer c w) → at + (1 + w) ≤ length book
-  within_rest c w t = let s = there (Longer c w) t in let l = length-drop at book in omega (arith, s.1.2)
+  pub told_stop : (r : Refusal) → Stepped ls at rest (Err r) → lines_from ls 0 at (drop at book) ≡ Err r
+  told_stop r t = let s = there (Err r) t in line_stops book ls at within r.fault r.layer s.0 ∙ ap (λ (n : ℕ). Err (refused r.fault r.layer n)) (sym s.1)
