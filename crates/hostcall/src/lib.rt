@@ -4,7 +4,7 @@
 ghost use Rattle.std.specs.Prelude.{◌≡◌, drop, pos, ◌≢◌, OnErr};
 ghost use Rattle.hostcall.specs.Numbers.{number_given};
 
-pub mod refusals;
+mod refusals;
 
 use crate::refusals::HostRefusal;
 use book::ops::{Command, Op};
@@ -49,7 +49,10 @@ fn list_of(first: &[u8; 8], rest: &[[u8; 8]]) -> Result<CodeList, HostRefusal> {
 // A reading's nine bytes: whether it is there, its ends.
 fn reading_of(bytes: &[u8; 9]) -> Result<Option<Reading>, HostRefusal> {
     let [present, l0, l1, l2, l3, h0, h1, h2, h3] = *bytes;
-    let (lo, hi) = (i32::from_be_bytes([l0, l1, l2, l3]), i32::from_be_bytes([h0, h1, h2, h3]));
+    let (lo, hi) = (
+        i32::from_be_bytes([l0, l1, l2, l3]),
+        i32::from_be_bytes([h0, h1, h2, h3]),
+    );
     match present {
         0 => Ok(None),
         1 => Ok(Some(Reading::new(lo, hi)?)),
@@ -114,23 +117,37 @@ fn answers_of_list(lines: &[u8], readings: &[u8], cell: Cell) -> Result<[u8; 18]
     items.push(list_of(first, rest)?)?;
     let mut bytes = [0; 18];
     let (plain, sloped) = bytes.split_at_mut(9);
-    let lists = Lists { items, way: Intervals };
+    let lists = Lists {
+        items,
+        way: Intervals,
+    };
     plain.copy_from_slice(&bytes_of(lists.enclosure(0, cell, &row)));
     let slope_lists = SlopeLists { items, way: Slopes };
     sloped.copy_from_slice(&bytes_of(slope_lists.enclosure(0, cell, &row)));
     Ok(bytes)
 }
 
-fn answer_of_table(reading: u8, knots: &[u8], readings: &[u8], cell: Cell) -> Result<[u8; 9], HostRefusal> {
+fn answer_of_table(
+    reading: u8,
+    knots: &[u8],
+    readings: &[u8],
+    cell: Cell,
+) -> Result<[u8; 9], HostRefusal> {
     let row = row_of(readings)?;
     let mut items = TableList::new();
     items.push(table_of(reading, knots)?)?;
-    let tables = Tables { items, way: LessReading };
+    let tables = Tables {
+        items,
+        way: LessReading,
+    };
     Ok(bytes_of(tables.enclosure(0, cell, &row)))
 }
 
 // Writes an answer's bytes at the start of out. A refusal leaves out as it was, as does an out that is too short.
-fn write<const N: usize>(answer: Result<[u8; N], HostRefusal>, out: &mut [u8]) -> Result<(), HostRefusal>
+fn write<const N: usize>(
+    answer: Result<[u8; N], HostRefusal>,
+    out: &mut [u8],
+) -> Result<(), HostRefusal>
     ensures refused { OnErr result (out.new ≡ out.old) }
     ensures rest { drop N out.new ≡ drop N out.old }
 {
@@ -164,7 +181,10 @@ pub extern "C" fn zefrwyll_host_table(
     ensures refused { (result ≢ pos 0) → out.new ≡ out.old }
     ensures rest { drop 9 out.new ≡ drop 9 out.old }
 {
-    number_of(write(answer_of_table(reading, knots, readings, Cell { lo, hi }), out))
+    number_of(write(
+        answer_of_table(reading, knots, readings, Cell { lo, hi }),
+        out,
+    ))
 }
 
 // 0 where the answers are written into the first 18 bytes of out; otherwise a refusal's number, and out is as it was.
