@@ -1,11 +1,15 @@
 -- The numbers on the way to an enclosure fit 64 bits.
-use Rattle.std.proofs.Common.{◌≡◌, ℕ, ◌^◌, ◌≤◌, ℤ, pos, ◌+ℤ◌, ◌-ℤ◌, nat_abs, Option, unwrap_or, sym, ap, arith, w32, w64, SFits, to_z, of_z}
+use Rattle.std.proofs.Common.{◌≡◌, ℕ, ◌^◌, ◌≤◌, ℤ, pos, ◌+ℤ◌, ◌-ℤ◌, ◌*ℤ◌, nat_abs, Option, unwrap_or, sym, ap, arith, w32, w64, SFits, to_z, of_z}
 use borrow.Author.Differences.{ints}
 use Rattle.std.specs.Int.{int_min, int_max}
 use Rattle.std.proofs.lemmas.Int.{clamps}
 use Rattle.exact.specs.Rounding.{floor, ceiling, floor_div, ceil_div}
+use Rattle.exact.proofs.Integers.{product_size}
 use Rattle.exact.proofs.Dividing.{Overflows, floor-fits, ceiling-fits, answered}
 use Rattle.interval.specs.Rules.{least, greatest}
+
+pub product_of_ends : (a d : ℤ) → SFits w32 a → SFits w32 d → nat_abs (a *ℤ d) ≤ 2 ^ 62
+product_of_ends a d f g = product_size a d (2 ^ 31) (2 ^ 31) (omega (arith, ints)) (omega (arith, ints))
 
 least_size : (a b : ℤ) (n : ℕ) → nat_abs a ≤ n → nat_abs b ≤ n → nat_abs (int_min a b) ≤ n
 least_size a b n h k = omega (arith, ints, clamps)

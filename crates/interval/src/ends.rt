@@ -1,17 +1,23 @@
 // Pairs of 64-bit ends on the way to an enclosure. The sizes of ends are such that no sum or product here passes 64 bits.
 ghost use Rattle.std.specs.Prelude.{◌≡◌, ◌^◌, ◌≤◌, pos, ◌*ℤ◌, ◌≢◌, unsigned_abs};
 ghost use Rattle.exact.specs.Rounding.{floor, ceiling};
-ghost use Rattle.interval.specs.Rules.{kept, products, quotients, quotients_apart, least, greatest, spans_zero, nearest, farthest};
+ghost use Rattle.interval.specs.Rules.{within, kept, products, quotients, quotients_apart, least, greatest, spans_zero, nearest, farthest};
 
 use crate::enclosures::{Enclosure, LIMIT};
 use exact::{ceil_div, floor_div};
+
+// Whether an end lies within the limit.
+fn within(z: i64) -> bool
+    ensures { result ≡ within z }
+{
+    (-LIMIT as i64..=LIMIT as i64).contains(&z)
+}
 
 // The pair, or no bounds where an end lies beyond the limit.
 pub fn keep(lo: i64, hi: i64) -> Enclosure
     ensures { result ≡ kept lo hi }
 {
-    let range = -LIMIT as i64..=LIMIT as i64;
-    if range.contains(&lo) && range.contains(&hi) {
+    if within(lo) && within(hi) {
         Enclosure::Bounds {
             lo: lo as i32,
             hi: hi as i32,
