@@ -1,18 +1,23 @@
-use Rattle.std.proofs.Common.{w64, SFits}
+use Rattle.std.proofs.Common.{◌^◌, ◌≤◌, nat_abs, arith, w64, SFits, to_z, of_z}
 use Rattle.std.proofs.lemmas.Int.{to_z-of_z}
 use Rattle.knots.proofs.Fits.{before_size, after_size, Walked, walked}
 use Rattle.knots.proofs.knots.Knot.height_toward.Goals as goal
-use Rattle.knots.proofs.knots.Knot.height_toward.Goals.{After-weighted-2}
+use Rattle.knots.proofs.knots.Knot.height_toward.Goals.{After-way-after, After-weighted-2}
+
+-- both ways are short, as the code has them
+ways : (c : After-way-after) → (nat_abs (to_z w64 (of_z w64 c.way-before.result)) ≤ 2 ^ 21) × (nat_abs (to_z w64 (of_z w64 c.way-after.result)) ≤ 2 ^ 21)
+ways c =
+    let f : SFits w64 c.way-before.result = record { sfits = c.way-before.type_inv } in
+    let g : SFits w64 c.way-after.result = record { sfits = c.way-after.type_inv } in (
+      simp to_z-of_z (before_size c.args.self c.args.next c.args.x c.requires.left c.requires.right c.requires.after c.requires.upto c.way-before.result c.way-before.ensures),
+      simp to_z-of_z (after_size c.args.self c.args.next c.args.x c.requires.left c.requires.right c.requires.after c.requires.upto c.way-after.result c.way-after.ensures),
+    )
 
 pub weighted-requires : goal.weighted-requires
-weighted-requires c =
-    let f : SFits w64 c.way-after.result = record { sfits = c.way-after.type_inv } in
-    simp to_z-of_z (after_size c.args.self c.args.next c.args.x c.requires.left c.requires.right c.requires.after c.requires.upto c.way-after.result c.way-after.ensures)
+weighted-requires c = let w = ways ((goal.at.weighted-requires c).After-way-after) in omega (arith, w.0, w.1)
 
 pub weighted-requires-2 : goal.weighted-requires-2
-weighted-requires-2 c =
-    let f : SFits w64 c.way-before.result = record { sfits = c.way-before.type_inv } in
-    simp to_z-of_z (before_size c.args.self c.args.next c.args.x c.requires.left c.requires.right c.requires.after c.requires.upto c.way-before.result c.way-before.ensures)
+weighted-requires-2 c = let w = ways ((goal.at.weighted-requires-2 c).After-way-after) in omega (arith, w.0, w.1)
 
 -- what holds from both products on
 way_to_height : (c : After-weighted-2) → Walked c.args.self c.args.next c.args.x c.way-before.result c.way-after.result c.weighted.result c.weighted-2.result
