@@ -15,7 +15,7 @@ use Rattle.interval.specs.declared.enclosures.Enclosure.{Enclosure}
 use Rattle.interval.specs.declared.enclosures.Enclosure.TheVariants.{NoBounds, Bounds}
 use Rattle.interval.specs.declared.enclosures.Branch.{Branch}
 use Rattle.interval.specs.declared.enclosures.Branch.TheVariants.{First, Second, Both, Neither}
-use Rattle.interval.specs.Rules.{within, kept, on1, on2, low_product, high_product, products, low_quotient, high_quotient, quotients, quotients_apart, spans_zero, size, nearest, farthest, neg, add, sub, mul, div, abs, max, hull, common, branch, held, taken, chi}
+use Rattle.interval.specs.Rules.{within, kept, on1, on2, low_product, high_product, low_quotient, high_quotient, quotients, quotients_apart, spans_zero, size, nearest, farthest, neg, add, sub, mul, div, abs, max, hull, common, branch, held, taken, chi}
 use Rattle.interval.specs.Meaning.{Between, Holds, InRange, Law1, Law2, HullLaw, CommonLaw, BranchLaw, Follows}
 use Rattle.interval.proofs.OneEnd.{cond_if, cond_by, absolute_by, larger_by, max_by, min_by, Low, High, low_≼, low_less, high_more, widen, low_nonneg, low_pos, high_neg, between_negated}
 use Rattle.interval.proofs.Products.{between_plus, between_times}
@@ -53,30 +53,43 @@ ranged2 f h (Bounds a b) (Bounds d e) = h a b d e
 follows : (rule : Enclosure) (Law : Enclosure → Type 0) (r : Enclosure) → Law rule → InRange rule → r ≡ rule → Follows rule Law r
 follows rule Law r l g e = record { same = e; law = subst Law (sym e) l; range = subst InRange (sym e) g }
 
+-- a rule whose answer is the pair from lo to hi, if these hold the exact result
+module _ (lo hi : ℤ → ℤ → ℤ) (g : Value → Value) (h : (a b : ℤ) (u : Fraction) → Between a b u → Holds (Bounds (lo a b) (hi a b)) (g (some u))) where
+  abbrev pair1 : ℤ → ℤ → Enclosure
+  pair1 a b = kept (lo a b) (hi a b)
+
+  follows1 : (p r : Enclosure) → r ≡ on1 pair1 p → Follows (on1 pair1 p) (Law1 g p) r
+  follows1 p r = follows (on1 pair1 p) (Law1 g p) r
+      (holds1 pair1 g (λ a b u k. kept_holds (lo a b) (hi a b) (g (some u)) (h a b u k)) p)
+      (ranged1 pair1 (λ a b. kept_range (lo a b) (hi a b)) p)
+
+module _ (lo hi : ℤ → ℤ → ℤ → ℤ → ℤ) (g : Value → Value → Value)
+    (h : (a b d e : ℤ) (u v : Fraction) → Between a b u → Between d e v → Holds (Bounds (lo a b d e) (hi a b d e)) (g (some u) (some v))) where
+  abbrev pair2 : ℤ → ℤ → ℤ → ℤ → Enclosure
+  pair2 a b d e = kept (lo a b d e) (hi a b d e)
+
+  follows2 : (p q r : Enclosure) → r ≡ on2 pair2 p q → Follows (on2 pair2 p q) (Law2 g p q) r
+  follows2 p q r = follows (on2 pair2 p q) (Law2 g p q) r
+      (holds2 pair2 g (λ a b d e u v k l. kept_holds (lo a b d e) (hi a b d e) (g (some u) (some v)) (h a b d e u v k l)) p q)
+      (ranged2 pair2 (λ a b d e. kept_range (lo a b d e) (hi a b d e)) p q)
+
 -- ---- NEG, ADD, SUB, MUL
 pub neg_follows : (p r : Enclosure) → r ≡ neg p → Follows (neg p) (Law1 (each negated) p) r
 unfolding neg
-neg_follows p r = follows (neg p) (Law1 (each negated) p) r
-    (holds1 (λ a b. kept (neg_ℤ b) (neg_ℤ a)) (each negated) (λ a b u h. kept_holds (neg_ℤ b) (neg_ℤ a) (some (negated u)) (between_negated a b u h)) p)
-    (ranged1 (λ a b. kept (neg_ℤ b) (neg_ℤ a)) (λ a b. kept_range (neg_ℤ b) (neg_ℤ a)) p)
+neg_follows = follows1 (λ a b. neg_ℤ b) (λ a b. neg_ℤ a) (each negated) between_negated
 
 pub add_follows : (p q r : Enclosure) → r ≡ add p q → Follows (add p q) (Law2 (both plus) p q) r
 unfolding add
-add_follows p q r = follows (add p q) (Law2 (both plus) p q) r
-    (holds2 (λ a b d e. kept (a +ℤ d) (b +ℤ e)) (both plus) (λ a b d e u v h k. kept_holds (a +ℤ d) (b +ℤ e) (some (plus u v)) (between_plus a b d e u v h k)) p q)
-    (ranged2 (λ a b d e. kept (a +ℤ d) (b +ℤ e)) (λ a b d e. kept_range (a +ℤ d) (b +ℤ e)) p q)
+add_follows = follows2 (λ a b d e. a +ℤ d) (λ a b d e. b +ℤ e) (both plus) between_plus
 
 pub sub_follows : (p q r : Enclosure) → r ≡ sub p q → Follows (sub p q) (Law2 (both minus) p q) r
 unfolding sub
-sub_follows p q r = follows (sub p q) (Law2 (both minus) p q) r
-    (holds2 (λ a b d e. kept (a -ℤ e) (b -ℤ d)) (both minus) (λ a b d e u v h k. kept_holds (a -ℤ e) (b -ℤ d) (some (minus u v)) (between_plus a b (neg_ℤ e) (neg_ℤ d) u (negated v) h (between_negated d e v k))) p q)
-    (ranged2 (λ a b d e. kept (a -ℤ e) (b -ℤ d)) (λ a b d e. kept_range (a -ℤ e) (b -ℤ d)) p q)
+sub_follows = follows2 (λ a b d e. a -ℤ e) (λ a b d e. b -ℤ d) (both minus)
+    (λ a b d e u v h k. between_plus a b (neg_ℤ e) (neg_ℤ d) u (negated v) h (between_negated d e v k))
 
 pub mul_follows : (p q r : Enclosure) → r ≡ mul p q → Follows (mul p q) (Law2 (both times) p q) r
 unfolding mul
-mul_follows p q r = follows (mul p q) (Law2 (both times) p q) r
-    (holds2 products (both times) (λ a b d e u v h k. kept_holds (low_product a b d e) (high_product a b d e) (some (times u v)) (between_times a b d e u v h k)) p q)
-    (ranged2 products (λ a b d e. kept_range (low_product a b d e) (high_product a b d e)) p q)
+mul_follows = follows2 low_product high_product (both times) between_times
 
 -- ---- DIV
 -- a pair that does not span zero lies above it or below
@@ -128,9 +141,7 @@ absolute_between a b u p = (low, high)
 
 pub abs_follows : (p r : Enclosure) → r ≡ abs p → Follows (abs p) (Law1 (each absolute) p) r
 unfolding abs
-abs_follows p r = follows (abs p) (Law1 (each absolute) p) r
-    (holds1 (λ a b. kept (nearest a b) (farthest a b)) (each absolute) (λ a b u h. kept_holds (nearest a b) (farthest a b) (some (absolute u)) (absolute_between a b u h)) p)
-    (ranged1 (λ a b. kept (nearest a b) (farthest a b)) (λ a b. kept_range (nearest a b) (farthest a b)) p)
+abs_follows = follows1 nearest farthest (each absolute) absolute_between
 
 -- ---- MAX
 larger_between : (a b d e : ℤ) (u v : Fraction) → Between a b u → Between d e v → Between (int_max a d) (int_max b e) (larger u v)
@@ -140,9 +151,7 @@ larger_between a b d e u v p q = larger_by (Between (int_max a d) (int_max b e))
 
 pub max_follows : (p q r : Enclosure) → r ≡ max p q → Follows (max p q) (Law2 (both larger) p q) r
 unfolding max
-max_follows p q r = follows (max p q) (Law2 (both larger) p q) r
-    (holds2 (λ a b d e. kept (int_max a d) (int_max b e)) (both larger) (λ a b d e u v h k. kept_holds (int_max a d) (int_max b e) (some (larger u v)) (larger_between a b d e u v h k)) p q)
-    (ranged2 (λ a b d e. kept (int_max a d) (int_max b e)) (λ a b d e. kept_range (int_max a d) (int_max b e)) p q)
+max_follows = follows2 (λ a b d e. int_max a d) (λ a b d e. int_max b e) (both larger) larger_between
 
 -- ---- the hull and the common part
 pub hull_holds : (p q : Enclosure) → HullLaw p q (hull p q)

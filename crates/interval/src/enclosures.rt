@@ -5,7 +5,8 @@ use std::fmt;
 pub const LIMIT: i32 = 2_000_000_000;
 
 // No bounds says nothing. Bounds say that there is a value, and that 1000 times it lies from lo to hi.
-// Not an Option: its rules, its Display and the traits of other crates stand on it, and only a type of this crate can have these.
+// Not an Option: only a type of this crate can have its rules, its Display and the traits of other crates; and in a struct round an Option
+// each pattern would be one layer deeper.
 #[derive(Clone, Copy, PartialEq, Eq, Debug)]
 pub enum Enclosure {
     NoBounds,

@@ -9,7 +9,8 @@ use Rattle.interval.specs.declared.enclosures.Enclosure.{Enclosure}
 use Rattle.interval.specs.declared.enclosures.Enclosure.TheVariants.{NoBounds, Bounds}
 use Rattle.interval.specs.declared.enclosures.Branch.{Branch}
 use Rattle.interval.specs.declared.enclosures.Branch.TheVariants.{First, Second, Both, Neither}
-use Rattle.interval.specs.Rules.{neg, add, sub, div, branch}
+use Rattle.interval.specs.Rules.{neg, add, sub, mul, div, abs, max, branch}
+use Rattle.interval.specs.Meaning
 use Rattle.interval.specs.Meaning.{Holds, Chooses}
 use Rattle.interval.proofs.OneEnd.{cond_by, low_pos, high_neg}
 use Rattle.interval.proofs.Laws.{kept_holds}
@@ -41,55 +42,42 @@ step2 op δ i j S h (some f) none (some g) n p q = tt
 step2 op δ i j S h (some f) (some f') (some g) none p q = tt
 step2 op δ i j S h (some f) (some f') (some g) (some g') p q = h f f' g g' p q
 
-pub neg_keeps : (i : Slope) → Law1 (each negated) i (neg_slope i)
-neg_keeps i δ x m p = record {
-  point = neg_holds i.v x p.point;
-  inside = neg_holds i.v m p.inside;
-  middle = neg_holds i.u m p.middle;
-  sloped = step1 negated δ i (neg i.s) (λ f f' l. neg_has δ f f' i.s l.sloped) x m p;
+-- ---- v and u follow the rule g on enclosures, which holds f's results; only the slope S is left to show
+keeps1 : (f : Value → Value) (g : Enclosure → Enclosure) → ((e : Enclosure) → Meaning.Law1 f e (g e)) → (i : Slope) (S : Enclosure)
+    → ((δ : Fraction) (x m : Value) → Vouches δ i x m → Sloped δ S (f x) (f m)) → Law1 f i (record { v = g i.v; u = g i.u; s = S })
+keeps1 f g holds i S slopes δ x m p = record { point = holds i.v x p.point; inside = holds i.v m p.inside; middle = holds i.u m p.middle; sloped = slopes δ x m p }
+
+keeps2 : (f : Value → Value → Value) (g : Enclosure → Enclosure → Enclosure) → ((d e : Enclosure) → Meaning.Law2 f d e (g d e)) → (i j : Slope) (S : Enclosure)
+    → ((δ : Fraction) (x m y n : Value) → Vouches δ i x m → Vouches δ j y n → Sloped δ S (f x y) (f m n)) → Law2 f i j (record { v = g i.v j.v; u = g i.u j.u; s = S })
+keeps2 f g holds i j S slopes δ x m y n p q = record {
+  point = holds i.v j.v x y p.point q.point;
+  inside = holds i.v j.v m n p.inside q.inside;
+  middle = holds i.u j.u m n p.middle q.middle;
+  sloped = slopes δ x m y n p q;
 }
+
+pub neg_keeps : (i : Slope) → Law1 (each negated) i (neg_slope i)
+neg_keeps i = keeps1 (each negated) neg neg_holds i (neg i.s) (λ δ. step1 negated δ i (neg i.s) (λ f f' l. neg_has δ f f' i.s l.sloped))
 
 pub abs_keeps : (i : Slope) → Law1 (each absolute) i (abs_slope i)
-abs_keeps i δ x m p = record {
-  point = abs_holds i.v x p.point;
-  inside = abs_holds i.v m p.inside;
-  middle = abs_holds i.u m p.middle;
-  sloped = step1 absolute δ i (abs_slope i).s (λ f f' l. bent_has δ f f' i.v i.s l.point l.inside l.sloped) x m p;
-}
+abs_keeps i = keeps1 (each absolute) abs abs_holds i (abs_slope i).s
+    (λ δ. step1 absolute δ i (abs_slope i).s (λ f f' l. bent_has δ f f' i.v i.s l.point l.inside l.sloped))
 
 pub add_keeps : (i j : Slope) → Law2 (both plus) i j (add_slope i j)
-add_keeps i j δ x m y n p q = record {
-  point = add_holds i.v j.v x y p.point q.point;
-  inside = add_holds i.v j.v m n p.inside q.inside;
-  middle = add_holds i.u j.u m n p.middle q.middle;
-  sloped = step2 plus δ i j (add i.s j.s) (λ f f' g g' l k. add_has δ f f' i.s l.sloped g g' j.s k.sloped) x m y n p q;
-}
+add_keeps i j = keeps2 (both plus) add add_holds i j (add i.s j.s)
+    (λ δ. step2 plus δ i j (add i.s j.s) (λ f f' g g' l k. add_has δ f f' i.s l.sloped g g' j.s k.sloped))
 
 pub sub_keeps : (i j : Slope) → Law2 (both minus) i j (sub_slope i j)
-sub_keeps i j δ x m y n p q = record {
-  point = sub_holds i.v j.v x y p.point q.point;
-  inside = sub_holds i.v j.v m n p.inside q.inside;
-  middle = sub_holds i.u j.u m n p.middle q.middle;
-  sloped = step2 minus δ i j (sub i.s j.s) (λ f f' g g' l k. sub_has δ f f' i.s l.sloped g g' j.s k.sloped) x m y n p q;
-}
+sub_keeps i j = keeps2 (both minus) sub sub_holds i j (sub i.s j.s)
+    (λ δ. step2 minus δ i j (sub i.s j.s) (λ f f' g g' l k. sub_has δ f f' i.s l.sloped g g' j.s k.sloped))
 
 pub mul_keeps : (i j : Slope) → Law2 (both times) i j (mul_slope i j)
-mul_keeps i j δ x m y n p q = record {
-  point = mul_holds i.v j.v x y p.point q.point;
-  inside = mul_holds i.v j.v m n p.inside q.inside;
-  middle = mul_holds i.u j.u m n p.middle q.middle;
-  sloped = step2 times δ i j (mul_slope i j).s
-      (λ f f' g g' l k. mul_has δ f f' i.s l.sloped g g' j.s k.sloped i.v j.u l.point k.middle) x m y n p q;
-}
+mul_keeps i j = keeps2 (both times) mul mul_holds i j (mul_slope i j).s
+    (λ δ. step2 times δ i j (mul_slope i j).s (λ f f' g g' l k. mul_has δ f f' i.s l.sloped g g' j.s k.sloped i.v j.u l.point k.middle))
 
 pub max_keeps : (i j : Slope) → Law2 (both larger) i j (max_slope i j)
-max_keeps i j δ x m y n p q = record {
-  point = max_holds i.v j.v x y p.point q.point;
-  inside = max_holds i.v j.v m n p.inside q.inside;
-  middle = max_holds i.u j.u m n p.middle q.middle;
-  sloped = step2 larger δ i j (max_slope i j).s
-      (λ f f' g g' l k. larger_has δ f f' g g' i.v j.v i.s j.s l.point l.inside k.point k.inside l.sloped k.sloped) x m y n p q;
-}
+max_keeps i j = keeps2 (both larger) max max_holds i j (max_slope i j).s
+    (λ δ. step2 larger δ i j (max_slope i j).s (λ f f' g g' l k. larger_has δ f f' g g' i.v j.v i.s j.s l.point l.inside k.point k.inside l.sloped k.sloped))
 
 -- ---- the quotient, which a zero divisor lacks
 unsloped : (δ : Fraction) (S : Enclosure) (x : Value) → Sloped δ S x none
@@ -107,14 +95,8 @@ div_sloped δ i j (some f) (some f') (some g) (some g') p q h =
     (λ z' _ e' k. div_has δ f f' i.s p.sloped g g' j.s q.sloped j.v (div i.u j.u) z z' q.point k nz e e') h)
 
 pub div_keeps : (i j : Slope) → Law2 quotient i j (div_slope i j)
-div_keeps i j δ x m y n p q =
-    let k = div_holds i.u j.u m n p.middle q.middle in
-    record {
-      point = div_holds i.v j.v x y p.point q.point;
-      inside = div_holds i.v j.v m n p.inside q.inside;
-      middle = k;
-      sloped = div_sloped δ i j x m y n p q k;
-    }
+div_keeps i j = keeps2 quotient div div_holds i j (div_slope i j).s
+    (λ δ x m y n p q. div_sloped δ i j x m y n p q (div_holds i.u j.u m n p.middle q.middle))
 
 -- ---- the choice
 lacking : (δ : Fraction) (x m : Value) → Sloped δ NoBounds x m

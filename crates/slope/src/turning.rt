@@ -1,4 +1,4 @@
-// Slopes of lines that turn: the larger of two, the absolute value, the branch.
+// Slopes of lines that turn: the larger of two, the absolute value, the branch. Each takes the parts that its rule reads.
 ghost use Rattle.std.specs.Prelude.{◌≡◌};
 ghost use Rattle.slope.specs.Rules.{larger_slope, bent_slope, chosen_slope};
 
