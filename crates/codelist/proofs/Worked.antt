@@ -10,7 +10,7 @@ use Rattle.codelist.specs.declared.lines.Line.TheVariants.{X, C, Add, Sub, Mul}
 use Rattle.codelist.specs.Exact.{value_of}
 use Rattle.codelist.specs.Plain.{enclosure_of}
 
-abbrev cell : Cell
+abbrev pub cell : Cell
 cell = record { lo = pos 1000; hi = pos 2000 }
 
 -- x·x − 4
@@ -22,7 +22,7 @@ unfolding mul sub
 square_enclosed = refl
 
 -- (x − 2)(x + 2)
-abbrev factors : List Line
+abbrev pub factors : List Line
 factors = X ∷ C (pos 2000) ∷ Sub 0 1 ∷ Add 0 1 ∷ Mul 2 3 ∷ []
 
 factors_enclosed : enclosure_of cell [] factors ≡ Bounds (negsuc 3999) (pos 0)

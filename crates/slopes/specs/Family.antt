@@ -19,5 +19,5 @@ last_slope c row ls = last_entry (over slope_rules c row) div_slope ls
 abbrev pub slope_enclosure : Cell → RowOf → List Line → Enclosure
 slope_enclosure c row ls = answer_of c (last_slope c row ls)
 
-abbrev pub slope_answer : CodeList → Cell → RowOf → Enclosure
-slope_answer l c row = slope_enclosure c row (lines_of l)
+abbrev pub sloped_answer : CodeList → Cell → RowOf → Enclosure
+sloped_answer l c row = slope_enclosure c row (lines_of l)

@@ -31,7 +31,7 @@ use Rattle.codelist.specs.PlainLaw.{lines_range}
 use Rattle.slopes.specs.declared.kind.Slopes.{Slopes}
 use Rattle.slopes.specs.Kind.{slope_rules, slope_vouches}
 use Rattle.slopes.specs.KindLaws.{slopes_law, slopes_division}
-use Rattle.slopes.specs.Family.{last_slope, slope_enclosure, slope_answer}
+use Rattle.slopes.specs.Family.{last_slope, slope_enclosure, sloped_answer}
 
 -- ---- v is the plain list's enclosure
 abbrev Over : Slope → Enclosure → Enclosure → Type 0
@@ -75,11 +75,11 @@ never_empty c row ls there b =
     (over_range c row ls) (subst HasBounds (sym (over_is_plain c row ls)) b)
 
 -- ---- the law
-pub sloped_law : ItemLaw list_value slope_answer
+pub sloped_law : ItemLaw list_value sloped_answer
 sloped_law = record {
   holds = λ l c row t x there allowed inside. let ls = lines_of l in answer_holds c x inside (last_slope c row ls) (value_of t x ls) (value_of t (whole (middle c)) ls) (last_vouches c row ls t x there allowed inside);
   range = λ l c row. answer_range c (last_slope c row (lines_of l)) (over_range c row (lines_of l));
 }
 
-pub slopes_lawful : Lawful {S = Curves CodeList Slopes} item_count (item_value list_value) (item_answer slope_answer)
+pub slopes_lawful : Lawful {S = Curves CodeList Slopes} item_count (item_value list_value) (item_answer sloped_answer)
 slopes_lawful = items_lawful sloped_law

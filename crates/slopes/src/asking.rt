@@ -4,7 +4,7 @@ ghost use Rattle.family.specs.Cells.{exists};
 ghost use Rattle.slope.specs.Meaning.{HasBounds};
 ghost use Rattle.codelist.specs.Lists.{lines_of};
 ghost use Rattle.codelist.specs.Plain.{enclosure_of, list_value};
-ghost use Rattle.slopes.specs.Family.{slope_enclosure, slope_answer};
+ghost use Rattle.slopes.specs.Family.{slope_enclosure, sloped_answer};
 ghost use Rattle.slopes.specs.FamilyLaw.{sloped_law};
 
 use crate::kind::Slopes;
@@ -34,7 +34,7 @@ pub type SlopeLists = Curves<CodeList, Slopes>;
 impl Enclosing<CodeList> for Slopes {
     ghost value = { list_value };
 
-    ghost answer = { slope_answer };
+    ghost answer = { sloped_answer };
 
     ghost laws = { sloped_law };
 

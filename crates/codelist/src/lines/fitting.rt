@@ -31,7 +31,7 @@ impl Line {
         ensures { result ≡ ranged self }
     {
         match self {
-            Line::C(v) => -LIMIT <= v && v <= LIMIT,
+            Line::C(v) => (-LIMIT..=LIMIT).contains(&v),
             _ => true,
         }
     }
