@@ -1,10 +1,9 @@
--- How the 64-bit functions reach floor and ceiling from `/`, which rounds toward zero (`quot_z`).
-use Rattle.std.proofs.Common.{◌≡◌, ℕ, zero, suc, ◌-◌, ◌*◌, ◌/◌, ◌^◌, ◌<◌, ◌≤◌, Bool, true, cond, ◌⊎◌, ℤ, pos, negsuc, ◌+ℤ◌, ◌-ℤ◌, neg_ℤ, nat_abs, ◌<ℤ◌, Some, None, Option, sym, refl, ap, ◌∙◌, subst, inl, inr, mul_comm, mul-le-mul_left, div-le_self, div-mul-le_self, div-one, arith, w64, SFits, to_z, of_z}
-use native.Mathlib.Nat.{zero-div}
-use lib.Signed.{quot_z}
+-- How the 64-bit functions reach floor and ceiling from Euclid's quotient, which leaves a rest of 0 or more.
+use Rattle.std.proofs.Common.{◌≡◌, ℕ, zero, suc, ◌-◌, ◌*◌, ◌/◌, ◌%◌, ◌^◌, ◌<◌, ◌≤◌, Bool, true, cond, ◌⊎◌, ℤ, pos, negsuc, ◌+ℤ◌, ◌-ℤ◌, neg_ℤ, ◌<ℤ◌, Some, None, Option, sym, refl, ap, ◌∙◌, subst, inl, inr, mul_comm, mul-le-mul_left, ⊎_elim, mod-lt, suc-mul, div-add-mod', div-le_self, div-mul-le_self, div-one, arith, w64, SFits}
+use Rattle.std.proofs.Math.Nat.{zero-div, zero-mod, mod-eq_of_lt, suc-mod, mod_self, div-eq_of_lt-le}
 use borrow.Author.Differences.{ints}
-use Rattle.std.proofs.lemmas.Int.{to_z-of_z}
-use Rattle.exact.specs.Rounding.{floor, ceiling, fits, if_fits, floor_div, ceil_div, IsFloor, IsCeiling, IfSome}
+use Rattle.std.specs.Int.{CanDivide, int_div_euclid, int_rem_euclid}
+use Rattle.exact.specs.Rounding.{floor, ceiling, fits, if_fits, floor_div, ceil_div, IsFloor, IsCeiling}
 use Rattle.exact.proofs.Rounding.{floor_is, ceiling_is, floor_size, ceiling_size}
 
 -- ---- the quotient fits 64 bits, but for the least number by −1
@@ -37,70 +36,62 @@ ceiling-fits (negsuc a) (negsuc zero) f o =
     omega (arith, ints)
 ceiling-fits (negsuc a) (negsuc (suc b)) f o = let h = half_at_most a b in omega (arith, ints)
 
--- ---- from a quotient rounded toward zero
--- the signs differ: n one nearer to zero, and one less
-pub floor_turned_down : (n d : ℤ) → pos 0 <ℤ n → d <ℤ pos 0 → quot_z (n -ℤ pos 1) d -ℤ pos 1 ≡ floor n d
-floor_turned_down (pos zero) d h k = absurd h.lt
-floor_turned_down (pos (suc m)) (pos b) h k = absurd (omega (arith, ints))
-floor_turned_down (pos (suc m)) (negsuc b) h k =
-    let e : pos (suc m) -ℤ pos 1 ≡ pos m = omega (arith, ints) in
-    ap (λ (z : ℤ). quot_z z (negsuc b) -ℤ pos 1) e ∙ omega (arith, ints)
-floor_turned_down (negsuc a) d h k = absurd h.lt
-
-pub floor_turned_up : (n d : ℤ) → n <ℤ pos 0 → pos 0 <ℤ d → quot_z (n +ℤ pos 1) d -ℤ pos 1 ≡ floor n d
-floor_turned_up (pos a) d h k = absurd (omega (arith, ints))
-floor_turned_up (negsuc a) (negsuc b) h k = absurd k.lt
-floor_turned_up (negsuc a) (pos b) h k = from a
+-- ---- from Euclid's quotient
+-- the quotient of the next number: one more where it divides, else the same
+next : (k a : ℕ) → 0 < k → ((suc (a % k) ≡ k) × (suc a % k ≡ 0) × (suc a / k ≡ suc (a / k))) ⊎ ((suc (a % k) < k) × (suc a % k ≡ suc (a % k)) × (suc a / k ≡ a / k))
+next k a h =
+    let e = div-add-mod' a k in
+    let l = mod-lt a h in
+    let s = suc-mul (a / k) k in
+    let t = suc-mul (suc (a / k)) k in
+    let m = suc-mod a k in
+    ⊎_elim (λ (p : suc (a % k) < k). inr (p, m ∙ mod-eq_of_lt p, div-eq_of_lt-le {k = a / k} k (omega arith) (omega arith)))
+    (λ (p : suc (a % k) ≡ k). inl (p, m ∙ ap (λ (z : ℕ). z % k) p ∙ mod_self k, div-eq_of_lt-le {k = suc (a / k)} k (omega arith) (omega arith)))
+    (below_or_at (suc (a % k)) (omega arith))
   where
-    from : (a : ℕ) → quot_z (negsuc a +ℤ pos 1) (pos b) -ℤ pos 1 ≡ negsuc (a / b)
-    from zero = let z = zero-div b in omega (arith, ints)
-    from (suc m) =
-        let e : negsuc (suc m) +ℤ pos 1 ≡ negsuc m = omega (arith, ints) in
-        ap (λ (z : ℤ). quot_z z (pos b) -ℤ pos 1) e ∙ omega (arith, ints)
+    below_or_at : (r : ℕ) → r ≤ k → (r < k) ⊎ (r ≡ k)
+    below_or_at r p = grind arith
 
--- the signs agree, or n is 0
-pub floor_plain : (n d : ℤ) → (pos 0 <ℤ n → d <ℤ pos 0 → ⊥) → (n <ℤ pos 0 → pos 0 <ℤ d → ⊥) → (d ≡ pos 0 → ⊥) → quot_z n d ≡ floor n d
-floor_plain (pos a) (pos b) h k z = refl
-floor_plain (pos zero) (negsuc b) h k z = let e = zero-div (suc b) in omega (arith, ints)
-floor_plain (pos (suc m)) (negsuc b) h k z = absurd (h (omega (arith, ints)) (record { lt = tt }))
-floor_plain (negsuc a) (pos zero) h k z = absurd (z refl)
-floor_plain (negsuc a) (pos (suc b)) h k z = absurd (k (record { lt = tt }) (omega (arith, ints)))
-floor_plain (negsuc a) (negsuc b) h k z = refl
+pub floor_above : (n d : ℤ) → pos 0 <ℤ d → int_div_euclid n d ≡ floor n d
+floor_above (pos a) (pos b) h = refl
+floor_above (negsuc a) (pos b) h = refl
+floor_above n (negsuc b) h = absurd h.lt
 
--- the ceiling is the floor of the opposite, turned round
-quot_neg : (n d : ℤ) → quot_z (neg_ℤ n) d ≡ neg_ℤ (quot_z n d)
-quot_neg (pos zero) (pos b) = let z = zero-div b in omega (arith, ints)
-quot_neg (pos zero) (negsuc b) = let z = zero-div (suc b) in omega (arith, ints)
-quot_neg (pos (suc m)) (pos b) = refl
-quot_neg (pos (suc m)) (negsuc b) = omega (arith, ints)
-quot_neg (negsuc a) (pos b) = omega (arith, ints)
-quot_neg (negsuc a) (negsuc b) = refl
+pub floor_even : (n d : ℤ) → d <ℤ pos 0 → int_rem_euclid n d ≡ pos 0 → int_div_euclid n d ≡ floor n d
+floor_even n (pos b) h r = absurd (omega (arith, ints))
+floor_even (pos zero) (negsuc b) h r = let z = zero-div (suc b) in omega (arith, ints)
+floor_even (pos (suc m)) (negsuc b) h r = let k = next (suc b) m (omega arith) in omega (arith, ints)
+floor_even (negsuc a) (negsuc b) h r = let k = next (suc b) a (omega arith) in omega (arith, ints)
 
-quot_size : (n d : ℤ) → nat_abs (quot_z n d) ≤ nat_abs n
-quot_size (pos a) (pos b) = div-le_self a b
-quot_size (pos a) (negsuc b) = let h = div-le_self a (suc b) in omega (arith, ints)
-quot_size (negsuc a) (pos b) = let h = div-le_self (suc a) b in omega (arith, ints)
-quot_size (negsuc a) (negsuc b) = div-le_self (suc a) (suc b)
+pub floor_uneven : (n d : ℤ) → d <ℤ pos 0 → (int_rem_euclid n d ≡ pos 0 → ⊥) → int_div_euclid n d -ℤ pos 1 ≡ floor n d
+floor_uneven n (pos b) h r = absurd (omega (arith, ints))
+floor_uneven (pos zero) (negsuc b) h r = absurd (r (ap pos (zero-mod (suc b))))
+floor_uneven (pos (suc m)) (negsuc b) h r = let k = next (suc b) m (omega arith) in omega (arith, ints)
+floor_uneven (negsuc a) (negsuc b) h r = let k = next (suc b) a (omega arith) in omega (arith, ints)
 
-pub ceiling_turned_down : (n d : ℤ) → pos 0 <ℤ n → pos 0 <ℤ d → quot_z (n -ℤ pos 1) d +ℤ pos 1 ≡ ceiling n d
-ceiling_turned_down n d h k =
-    let f = floor_turned_up (neg_ℤ n) d (omega (arith, ints)) k in
-    let e : neg_ℤ n +ℤ pos 1 ≡ neg_ℤ (n -ℤ pos 1) = omega (arith, ints) in
-    let g : quot_z (neg_ℤ n +ℤ pos 1) d ≡ neg_ℤ (quot_z (n -ℤ pos 1) d) = ap (λ (z : ℤ). quot_z z d) e ∙ quot_neg (n -ℤ pos 1) d in
+-- by −d Euclid's quotient is the opposite, with the same rest; and the ceiling by d is the opposite of the floor by −d
+opposite : (n : ℤ) (b : ℕ) → (neg_ℤ (int_div_euclid n (negsuc b)) ≡ int_div_euclid n (pos (suc b))) × (int_rem_euclid n (negsuc b) ≡ int_rem_euclid n (pos (suc b)))
+opposite (pos a) b = (omega (arith, ints), refl)
+opposite (negsuc a) b = (refl, refl)
+
+pub ceiling_below : (n d : ℤ) → d <ℤ pos 0 → int_div_euclid n d ≡ ceiling n d
+ceiling_below n (pos b) h = absurd (omega (arith, ints))
+ceiling_below (pos zero) (negsuc b) h = refl
+ceiling_below (pos (suc m)) (negsuc b) h = refl
+ceiling_below (negsuc a) (negsuc b) h = refl
+
+pub ceiling_even : (n d : ℤ) → pos 0 <ℤ d → int_rem_euclid n d ≡ pos 0 → int_div_euclid n d ≡ ceiling n d
+ceiling_even n (pos zero) h r = absurd (omega (arith, ints))
+ceiling_even n (pos (suc b)) h r = let o = opposite n b in sym o.0 ∙ ap neg_ℤ (floor_even n (negsuc b) (record { lt = tt }) (o.1 ∙ r))
+ceiling_even n (negsuc b) h r = absurd h.lt
+
+pub ceiling_uneven : (n d : ℤ) → pos 0 <ℤ d → (int_rem_euclid n d ≡ pos 0 → ⊥) → int_div_euclid n d +ℤ pos 1 ≡ ceiling n d
+ceiling_uneven n (pos zero) h r = absurd (omega (arith, ints))
+ceiling_uneven n (pos (suc b)) h r =
+    let o = opposite n b in
+    let f = floor_uneven n (negsuc b) (record { lt = tt }) (λ e. r (sym o.1 ∙ e)) in
     omega (arith, ints)
-
-pub ceiling_turned_up : (n d : ℤ) → n <ℤ pos 0 → d <ℤ pos 0 → quot_z (n +ℤ pos 1) d +ℤ pos 1 ≡ ceiling n d
-ceiling_turned_up n d h k =
-    let f = floor_turned_down (neg_ℤ n) d (omega (arith, ints)) k in
-    let e : neg_ℤ n -ℤ pos 1 ≡ neg_ℤ (n +ℤ pos 1) = omega (arith, ints) in
-    let g : quot_z (neg_ℤ n -ℤ pos 1) d ≡ neg_ℤ (quot_z (n +ℤ pos 1) d) = ap (λ (z : ℤ). quot_z z d) e ∙ quot_neg (n +ℤ pos 1) d in
-    omega (arith, ints)
-
-pub ceiling_plain : (n d : ℤ) → (pos 0 <ℤ n → pos 0 <ℤ d → ⊥) → (n <ℤ pos 0 → d <ℤ pos 0 → ⊥) → (d ≡ pos 0 → ⊥) → quot_z n d ≡ ceiling n d
-ceiling_plain n d h k z =
-    let f = floor_plain (neg_ℤ n) d (λ p q. k (omega (arith, ints)) q) (λ p q. h (omega (arith, ints)) q) z in
-    let g = quot_neg n d in
-    omega (arith, ints)
+ceiling_uneven n (negsuc b) h r = absurd h.lt
 
 -- ---- the answer
 in_range : (q : ℤ) → SFits w64 q → fits q ≡ true
@@ -111,66 +102,24 @@ answered (pos zero) q z f = absurd (z refl)
 answered (pos (suc d)) q z f = ap (λ (t : Bool). cond t (Some q) None) (sym (in_range q f))
 answered (negsuc d) q z f = ap (λ (t : Bool). cond t (Some q) None) (sym (in_range q f))
 
--- ---- as the code leaves it, where a number goes to its bits and back
-abbrev pub again : ℤ → ℤ
-again z = to_z w64 (of_z w64 z)
+-- what the code knows once Euclid's quotient is there, and what its answer z is
+can_divide : (n d : ℤ) → CanDivide w64 n d → (Overflows n d → ⊥) × (d ≡ pos 0 → ⊥)
+can_divide n d (z, f) = (λ o. let g = rw (o.0, o.1) at f in omega (arith, ints), λ e. omega (arith, ints))
 
-pub no_overflow : (n d : ℤ) → ((of_z w64 n ≡ 2 ^ 63) × (of_z w64 d ≡ 2 ^ 64 - 1 → ⊥)) ⊎ (of_z w64 n ≡ 2 ^ 63 → ⊥) → Overflows n d → ⊥
-no_overflow n d (inl h) o = h.1 (ap (of_z w64) o.1)
-no_overflow n d (inr h) o = h (ap (of_z w64) o.0)
+pub record Told (n d : ℤ) (answer : ℤ → ℤ → Option ℤ) (Is : ℤ → ℤ → ℤ → Type 0) (z : ℤ) : Type 0 where
+  pub fits : SFits w64 z
+  pub value : Some z ≡ answer n d
+  pub meaning : Is n d z
 
--- the quotient k/d rounded toward zero, and s more
-pub shifted : (k d s q : ℤ) → SFits w64 k → SFits w64 d → nat_abs k < 2 ^ 63 → quot_z k d +ℤ s ≡ q → SFits w64 q → again (again (quot_z (again k) (again d)) +ℤ s) ≡ q
-shifted k d s q f g h e r =
-    let l = quot_size k d in
-    let i : SFits w64 (quot_z k d) = omega (arith, ints) in
-    let m : SFits w64 (quot_z k d +ℤ s) = subst (SFits w64) (sym e) r in
-    simp to_z-of_z e
+module _ (n d z : ℤ) (f : SFits w64 n) (can : CanDivide w64 n d) where
+  pub told_floor : z ≡ floor n d → Told n d floor_div IsFloor z
+  told_floor e =
+      let c = can_divide n d can in
+      let g = floor-fits n d f c.0 in
+      record { fits = subst (SFits w64) (sym e) g; value = ap Some e ∙ answered d (floor n d) c.1 g; meaning = subst (IsFloor n d) (sym e) (floor_is n d) }
 
-pub direct : (n d q : ℤ) → SFits w64 n → SFits w64 d → quot_z n d ≡ q → SFits w64 q → again (quot_z (again n) (again d)) ≡ q
-direct n d q f g e r = let m : SFits w64 (quot_z n d) = subst (SFits w64) (sym e) r in simp to_z-of_z e
-
-pub record Told (n d : ℤ) (answer : ℤ → ℤ → Option ℤ) (Is : ℤ → ℤ → ℤ → Type 0) (r : Option ℤ) : Type 0 where
-  pub value : r ≡ answer n d
-  pub meaning : IfSome (Is n d) r
-
-module _ (n d q : ℤ) (z : d ≡ pos 0 → ⊥) (f : SFits w64 n) (o : Overflows n d → ⊥) where
-  pub told_floor : q ≡ floor n d → Told n d floor_div IsFloor (Some q)
-  told_floor e = record {
-    value = ap Some e ∙ answered d (floor n d) z (floor-fits n d f o);
-    meaning = subst (IsFloor n d) (sym e) (floor_is n d);
-  }
-
-  pub told_ceiling : q ≡ ceiling n d → Told n d ceil_div IsCeiling (Some q)
-  told_ceiling e = record {
-    value = ap Some e ∙ answered d (ceiling n d) z (ceiling-fits n d f o);
-    meaning = subst (IsCeiling n d) (sym e) (ceiling_is n d);
-  }
-
--- each arm of the code: the dividend one nearer to zero by t, and the quotient moved by s; or the plain quotient
-module _ (n d : ℤ) (f : SFits w64 n) (g : SFits w64 d) (z : d ≡ pos 0 → ⊥) (o : Overflows n d → ⊥) where
-  pub floor_moved : (t s : ℤ) → nat_abs (n +ℤ t) < 2 ^ 63 → quot_z (n +ℤ t) d +ℤ s ≡ floor n d → Told n d floor_div IsFloor (Some (again (again (quot_z (again (again n +ℤ t)) (again d)) +ℤ s)))
-  floor_moved t s h e =
-      let k : SFits w64 (n +ℤ t) = omega (arith, ints) in
-      let q : again (again (quot_z (again (again n +ℤ t)) (again d)) +ℤ s) ≡ floor n d = simp (to_z-of_z w64 n f) (shifted (n +ℤ t) d s (floor n d) k g h e (floor-fits n d f o)) in
-      told_floor n d _ z f o q
-
-  pub floor_direct : quot_z n d ≡ floor n d → Told n d floor_div IsFloor (Some (again (quot_z (again n) (again d))))
-  floor_direct e = told_floor n d _ z f o (direct n d (floor n d) f g e (floor-fits n d f o))
-
-  pub ceiling_moved : (t s : ℤ) → nat_abs (n +ℤ t) < 2 ^ 63 → quot_z (n +ℤ t) d +ℤ s ≡ ceiling n d → Told n d ceil_div IsCeiling (Some (again (again (quot_z (again (again n +ℤ t)) (again d)) +ℤ s)))
-  ceiling_moved t s h e =
-      let k : SFits w64 (n +ℤ t) = omega (arith, ints) in
-      let q : again (again (quot_z (again (again n +ℤ t)) (again d)) +ℤ s) ≡ ceiling n d = simp (to_z-of_z w64 n f) (shifted (n +ℤ t) d s (ceiling n d) k g h e (ceiling-fits n d f o)) in
-      told_ceiling n d _ z f o q
-
-  -- the last sum of that arm fits
-  pub ceiling_sum_fits : (t s : ℤ) → nat_abs (n +ℤ t) < 2 ^ 63 → quot_z (n +ℤ t) d +ℤ s ≡ ceiling n d → SFits w64 (again (quot_z (again (again n +ℤ t)) (again d)) +ℤ s)
-  ceiling_sum_fits t s h e =
-      let k : SFits w64 (n +ℤ t) = omega (arith, ints) in
-      let l = quot_size (n +ℤ t) d in
-      let i : SFits w64 (quot_z (n +ℤ t) d) = omega (arith, ints) in
-      simp to_z-of_z (subst (SFits w64) (sym e) (ceiling-fits n d f o))
-
-  pub ceiling_direct : quot_z n d ≡ ceiling n d → Told n d ceil_div IsCeiling (Some (again (quot_z (again n) (again d))))
-  ceiling_direct e = told_ceiling n d _ z f o (direct n d (ceiling n d) f g e (ceiling-fits n d f o))
+  pub told_ceiling : z ≡ ceiling n d → Told n d ceil_div IsCeiling z
+  told_ceiling e =
+      let c = can_divide n d can in
+      let g = ceiling-fits n d f c.0 in
+      record { fits = subst (SFits w64) (sym e) g; value = ap Some e ∙ answered d (ceiling n d) c.1 g; meaning = subst (IsCeiling n d) (sym e) (ceiling_is n d) }

@@ -1,9 +1,9 @@
 -- Laws of fractions: equality is an equivalence, every operation respects it, and the order is a linear one.
 use Rattle.std.proofs.Common.{◌≡◌, Bool, true, false, cond, ℤ, pos, ◌+ℤ◌, ◌*ℤ◌, neg_ℤ, nat_abs, ◌≤ℤ◌, ◌<ℤ◌, sym, refl, ap, ◌∙◌, subst, arith}
 use lib.Signed.{lt_z, clash_ℤ}
-use Rattle.std.proofs.lemmas.Int.{by_lt_z}
+use Rattle.std.proofs.lemmas.Int.{by_lt_z, unsigned_abs-mul}
 use borrow.Author.Differences.{ints}
-use Rattle.exact.proofs.Integers.{linear, product_pos, ≤ℤ-mul, ≤ℤ_cancel, ≡_cancel, by_order, nat_abs_mul}
+use Rattle.exact.proofs.Integers.{linear, product_pos, ≤ℤ-mul, ≤ℤ_cancel, ≡_cancel, by_order}
 use Rattle.exact.proofs.Ring.{◌⊕◌, ◌⊗◌, ⊖◌, ◌≐◌, ring2, ring3, ring4, ring6}
 use Rattle.exact.specs.Fraction.{Fraction, ◌≃◌, ◌≼◌, ◌≺◌, plus, negated, minus, times, absolute, less, larger}
 
@@ -72,7 +72,7 @@ negated-≃ u u' p =
     l ∙ ap neg_ℤ p ∙ sym r
 
 pub absolute-≃ : (u u' : Fraction) → u ≃ u' → absolute u ≃ absolute u'
-absolute-≃ u u' p = ap pos (sym (nat_abs_mul u.num (pos u'.den)) ∙ ap nat_abs p ∙ nat_abs_mul u'.num (pos u.den))
+absolute-≃ u u' p = ap pos (sym (unsigned_abs-mul u.num (pos u'.den)) ∙ ap nat_abs p ∙ unsigned_abs-mul u'.num (pos u.den))
 
 pub less-≃ : (u u' v v' : Fraction) → u ≃ u' → v ≃ v' → less u v ≡ less u' v'
 less-≃ u u' v v' p q = by_lt_z X Y

@@ -1,8 +1,8 @@
 -- Laws of the whole numbers beyond those of lib.IntN: a commutative ring, its order, and sizes of products.
-use Rattle.std.proofs.Common.{◌≡◌, ℕ, ◌+◌, ◌*◌, ◌<◌, ◌≤◌, ℤ, pos, negsuc, ◌+ℤ◌, ◌-ℤ◌, ◌*ℤ◌, neg_ℤ, nat_abs, ◌≤ℤ◌, ◌<ℤ◌, sym, refl, ap, ◌∙◌, mul_assoc, add-mul, mul-le-mul, mul-pos, mul-add, arith}
+use Rattle.std.proofs.Common.{◌≡◌, ℕ, ◌+◌, ◌*◌, ◌<◌, ◌≤◌, ℤ, pos, negsuc, ◌+ℤ◌, ◌-ℤ◌, ◌*ℤ◌, neg_ℤ, nat_abs, ◌≤ℤ◌, ◌<ℤ◌, sym, ap, ◌∙◌, mul_assoc, add-mul, mul-le-mul, mul-pos, mul-add, arith}
 use lib.IntN.{*ℤ_comm, +ℤ_comm, +ℤ_assoc, neg_ℤ-+ℤ, neg_ℤ-neg_ℤ}
 use borrow.Author.Differences.{up, down, ints, same_in, sum_is_lem, product_is, neg_is, at_most_in, below_in, le_out, lt_out, same_out}
-use Rattle.std.proofs.lemmas.Int.{by_lt_z}
+use Rattle.std.proofs.lemmas.Int.{by_lt_z, unsigned_abs-mul}
 
 pub up-mul : (a b : ℤ) → up (a *ℤ b) ≡ up a * up b + down a * down b
 up-mul a b = (product_is a b).0
@@ -86,17 +86,5 @@ pub ≡_cancel : (a b c : ℤ) → pos 0 <ℤ c → a *ℤ c ≡ b *ℤ c → a 
 ≡_cancel a b c k e = let p = ≤ℤ_cancel a b c k (omega (arith, linear)) in let q = ≤ℤ_cancel b a c k (omega (arith, linear)) in omega (arith, linear)
 
 -- ---- sizes
-pub nat_abs_mul : (a b : ℤ) → nat_abs (a *ℤ b) ≡ nat_abs a * nat_abs b
-nat_abs_mul (pos a) (pos b) = refl
-nat_abs_mul (pos a) (negsuc b) = omega (arith, ints)
-nat_abs_mul (negsuc a) (pos b) = omega (arith, ints)
-nat_abs_mul (negsuc a) (negsuc b) = refl
-
-pub abs_bounds : (a : ℤ) (n : ℕ) → nat_abs a ≤ n → (neg_ℤ (pos n) ≤ℤ a) × (a ≤ℤ pos n)
-abs_bounds a n h = (omega (arith, ints), omega (arith, ints))
-
-pub bounds_abs : (a : ℤ) (n : ℕ) → neg_ℤ (pos n) ≤ℤ a → a ≤ℤ pos n → nat_abs a ≤ n
-bounds_abs a n h k = omega (arith, ints)
-
 pub product_size : (a b : ℤ) (m n : ℕ) → nat_abs a ≤ m → nat_abs b ≤ n → nat_abs (a *ℤ b) ≤ m * n
-product_size a b m n h k = rw (nat_abs_mul a b) (mul-le-mul h k)
+product_size a b m n h k = rw (unsigned_abs-mul a b) (mul-le-mul h k)

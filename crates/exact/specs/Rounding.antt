@@ -40,8 +40,3 @@ pub record IsFloor (n d q : ℤ) : Type 0 where
 pub record IsCeiling (n d q : ℤ) : Type 0 where
   pub above : pos 0 <ℤ d → (((q +ℤ negsuc 0) *ℤ d) <ℤ n) × (n ≤ℤ (q *ℤ d))
   pub below : d <ℤ pos 0 → (n <ℤ ((q +ℤ negsuc 0) *ℤ d)) × ((q *ℤ d) ≤ℤ n)
-
--- what holds of an answered quotient
-abbrev pub IfSome : (ℤ → Type 0) → Option ℤ → Type 0
-IfSome P None = Unit {0}
-IfSome P (Some q) = P q

@@ -2,59 +2,33 @@
 #![tactic(auto)]
 
 ghost use Rattle.std.specs.Prelude.{◌≡◌};
-ghost use Rattle.exact.specs.Rounding.{floor_div, ceil_div, IsFloor, IsCeiling, IfSome};
+ghost use Rattle.std.specs.Option.{IfSome};
+ghost use Rattle.exact.specs.Rounding.{floor_div, ceil_div, IsFloor, IsCeiling};
 
 // n/d rounded down. None where d is 0, or where the quotient passes 64 bits (i64::MIN by -1).
 pub fn floor_div(n: i64, d: i64) -> Option<i64>
     ensures value { result ≡ floor_div n d }
-    ensures meaning { IfSome (IsFloor n d) result }
+    ensures meaning { IfSome result (IsFloor n d) }
 {
-    if d == 0 {
-        return None;
-    }
-    if n == i64::MIN && d == -1 {
-        return None;
-    }
-    // `/` rounds toward zero: down, unless the signs differ. There n, one nearer to zero, gives one more than the floor.
-    if d > 0 {
-        if n < 0 {
-            Some((n + 1) / d - 1)
-        } else {
-            Some(n / d)
-        }
+    // Euclid's quotient leaves a rest of 0 or more: it is the floor where d is above 0, and the ceiling where d is below.
+    let q = n.checked_div_euclid(d)?;
+    if d < 0 && n.rem_euclid(d) != 0 {
+        Some(q - 1)
     } else {
-        if n > 0 {
-            Some((n - 1) / d - 1)
-        } else {
-            Some(n / d)
-        }
+        Some(q)
     }
 }
 
 // n/d rounded up. None where d is 0, or where the quotient passes 64 bits (i64::MIN by -1).
 pub fn ceil_div(n: i64, d: i64) -> Option<i64>
     ensures value { result ≡ ceil_div n d }
-    ensures meaning { IfSome (IsCeiling n d) result }
+    ensures meaning { IfSome result (IsCeiling n d) }
 {
-    if d == 0 {
-        return None;
-    }
-    if n == i64::MIN && d == -1 {
-        return None;
-    }
-    // `/` rounds toward zero: up, unless the signs agree. There n, one nearer to zero, gives one less than the ceiling.
-    if d > 0 {
-        if n > 0 {
-            Some((n - 1) / d + 1)
-        } else {
-            Some(n / d)
-        }
+    let q = n.checked_div_euclid(d)?;
+    if d > 0 && n.rem_euclid(d) != 0 {
+        Some(q + 1)
     } else {
-        if n < 0 {
-            Some((n + 1) / d + 1)
-        } else {
-            Some(n / d)
-        }
+        Some(q)
     }
 }
 

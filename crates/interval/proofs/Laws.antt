@@ -1,11 +1,11 @@
 -- The law of each rule: where the operands hold their exact values, the result holds the exact result; and its ends lie within
 -- the limit.
-use Rattle.std.proofs.Common.{◌≡◌, Bool, true, false, cond, ◌&&◌, ◌||◌, ℤ, pos, ◌+ℤ◌, ◌-ℤ◌, neg_ℤ, ◌≤ℤ◌, ◌<ℤ◌, sym, refl, ◌∙◌, subst, inl, inr, arith}
+use Rattle.std.proofs.Common.{◌≡◌, true, false, cond, ◌&&◌, ◌||◌, ℤ, pos, ◌+ℤ◌, ◌-ℤ◌, neg_ℤ, ◌≤ℤ◌, ◌<ℤ◌, sym, refl, ◌∙◌, subst, inl, inr, arith}
 use lib.Signed.{lt_z, le_z, clash_ℤ}
 use borrow.Author.Differences.{ints}
 use Rattle.std.specs.Int.{int_min, int_max}
 use Rattle.std.proofs.lemmas.Int.{clamps}
-use Rattle.std.proofs.lemmas.Bool.{and_parts}
+use Rattle.std.proofs.lemmas.Bool.{and_parts, or_parts}
 use Rattle.exact.proofs.Integers.{linear, by_order}
 use Rattle.exact.proofs.Ring.{zero_by}
 use Rattle.exact.proofs.Fractions.{≺-≼}
@@ -86,17 +86,13 @@ apart d e s f g = by_order d (pos 0) (λ h. by_order (pos 0) e (λ k. absurd (ma
     spans : (d e : ℤ) → d ≤ℤ pos 0 → pos 0 ≤ℤ e → spans_zero d e ≡ true
     spans d e h k = grind (arith, ints)
 
-neither : (a b : Bool) → (a || b) ≡ false → a ≡ false
-neither true b e = e
-neither false b e = refl
-
 pub div_follows : (p q r : Enclosure) → r ≡ div p q → Follows (div p q) (Law2 quotient p q) r
 unfolding div
 div_follows p q r = follows (div p q) (Law2 quotient p q) r (holds2 quotients_apart quotient holds p q) (ranged2 quotients_apart ranged p q)
   where
     holds : (a b d e : ℤ) (u v : Fraction) → Between a b u → Between d e v → Holds (quotients_apart a b d e) (divided u v)
     holds a b d e u v h k = cond_if (λ E. Holds E (divided u v)) (spans_zero d e || spans_zero e d) NoBounds (quotients a b d e) (λ _. tt)
-        (λ s. apart d e (neither (spans_zero d e) (spans_zero e d) s)
+        (λ s. apart d e (or_parts (spans_zero d e) (spans_zero e d) s).0
         (λ l. kept_holds (low_quotient a b d e) (high_quotient a b d e) (divided u v) (quotient_pos a b d e u v h k l))
         (λ l. kept_holds (low_quotient a b d e) (high_quotient a b d e) (divided u v) (quotient-neg a b d e u v h k l)))
 

@@ -3,6 +3,7 @@ use Rattle.std.proofs.Common.{◌≡◌, Bool, true, false, cond, ℤ, pos, negs
 use lib.Signed.{lt_z}
 use borrow.Author.Differences.{ints}
 use Rattle.std.specs.Int.{int_min, int_max}
+use Rattle.std.proofs.lemmas.Bool.{cond_both}
 use Rattle.exact.proofs.Integers.{linear, ≤ℤ-mul, ≤ℤ_cancel, product_nonneg, product_pos, neg-*ℤ, *ℤ-neg}
 use Rattle.exact.proofs.Ring.{lit, ◌⊗◌, ◌≐◌, ring2, ring3}
 use Rattle.exact.proofs.Fractions.{den_pos}
@@ -11,8 +12,7 @@ use Rattle.interval.specs.Meaning.{Between}
 
 -- ---- eliminators: a test, the absolute, the larger of two
 pub cond_if : {A : Type 0} (P : A → Type 0) (t : Bool) (x y : A) → (t ≡ true → P x) → (t ≡ false → P y) → P (cond t x y)
-cond_if P true x y f g = f refl
-cond_if P false x y f g = g refl
+cond_if P t x y f g = cond_both t x y P f g
 
 pub cond_by : {A : Type 0} (P : A → Type 0) (a b : ℤ) (x y : A) → (a <ℤ b → P x) → (b ≤ℤ a → P y) → P (cond (lt_z a b) x y)
 cond_by P a b x y f g = by (lt_z a b) refl

@@ -1,5 +1,5 @@
 -- The numbers on the way to an enclosure fit 64 bits.
-use Rattle.std.proofs.Common.{◌≡◌, ℕ, ◌^◌, ◌≤◌, ℤ, pos, ◌*ℤ◌, nat_abs, Option, unwrap_or, sym, ap, arith, w32, w64, SFits}
+use Rattle.std.proofs.Common.{◌≡◌, ℕ, ◌^◌, ◌≤◌, ℤ, pos, ◌+ℤ◌, ◌-ℤ◌, ◌*ℤ◌, nat_abs, Option, unwrap_or, sym, ap, arith, w32, w64, SFits, to_z, of_z}
 use borrow.Author.Differences.{ints}
 use Rattle.std.specs.Int.{int_min, int_max}
 use Rattle.std.proofs.lemmas.Int.{clamps}
@@ -37,3 +37,10 @@ module _ (n d : ℤ) (h : nat_abs n ≤ 2 ^ 62) (z : d ≡ pos 0 → ⊥) where
 
   pub ceiling_answered : unwrap_or (ceil_div n d) (pos 0) ≡ ceiling n d
   ceiling_answered = ap (λ (o : Option ℤ). unwrap_or o (pos 0)) (sym (answered d (ceiling n d) z (ceiling-fits n d (small_fits n h) (small n d h))))
+
+-- sums of ends fit 64 bits
+pub sum_again : (a d : ℤ) → SFits w32 a → SFits w32 d → to_z w64 (of_z w64 (a +ℤ d)) ≡ a +ℤ d
+sum_again a d f g = omega (arith, ints)
+
+pub difference_again : (a e : ℤ) → SFits w32 a → SFits w32 e → to_z w64 (of_z w64 (a -ℤ e)) ≡ a -ℤ e
+difference_again a e f g = omega (arith, ints)

@@ -1,5 +1,5 @@
 -- What an enclosure, a sign and a branch say of exact values, and the law of a rule.
-use Rattle.std.specs.Prelude.{◌≡◌, Bool, true, false, ◌⊎◌, ℤ, pos, ◌*ℤ◌, neg_ℤ, ◌≤ℤ◌}
+use Rattle.std.specs.Prelude.{◌≡◌, true, false, ◌⊎◌, ℤ, pos, ◌*ℤ◌, neg_ℤ, ◌≤ℤ◌}
 use Rattle.exact.specs.Fraction.{Fraction}
 use Rattle.exact.specs.Value.{Value, none, some, negative, choice}
 use Rattle.interval.specs.declared.enclosures.Enclosure.{Enclosure}
@@ -7,7 +7,7 @@ use Rattle.interval.specs.declared.enclosures.Enclosure.TheVariants.{NoBounds, B
 use Rattle.interval.specs.declared.enclosures.Branch.{Branch}
 use Rattle.interval.specs.declared.enclosures.Branch.TheVariants.{First, Second, Both, Neither}
 use Rattle.interval.specs.declared.enclosures.Sign.{Sign}
-use Rattle.interval.specs.declared.enclosures.Sign.TheVariants.{Plus, Minus, Unknown}
+use Rattle.interval.specs.declared.enclosures.Sign.TheVariants.{Plus, Minus}
 use Rattle.interval.specs.Rules.{within}
 
 -- lo ≤ 1000·v ≤ hi
@@ -38,12 +38,6 @@ Shows Plus none = ⊥
 Shows Plus (some v) = CountAbove v
 Shows Minus none = ⊥
 Shows Minus (some v) = CountBelow v
-Shows Unknown v = Unit {0}
-
-abbrev pub is_known : Sign → Bool
-is_known Plus = true
-is_known Minus = true
-is_known Unknown = false
 
 -- one count or more from zero
 abbrev pub Away : Value → Type 0

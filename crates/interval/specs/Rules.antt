@@ -1,13 +1,13 @@
 -- The rules that compute with enclosures. Ends are whole counts of a thousandth. Every rule computes on closed data.
-use Rattle.std.specs.Prelude.{Bool, false, cond, ◌&&◌, ◌||◌, ℤ, pos, negsuc, ◌+ℤ◌, ◌-ℤ◌, ◌*ℤ◌, neg_ℤ, int_le, int_lt, unsigned_abs}
-use Rattle.std.specs.Int.{int_min, int_max}
+use Rattle.std.specs.Prelude.{◌≡◌, Bool, false, cond, ◌&&◌, ◌||◌, ℤ, pos, negsuc, ◌+ℤ◌, ◌-ℤ◌, ◌*ℤ◌, neg_ℤ, Option, Some, None, FitsSigned, int_le, int_lt, unsigned_abs}
+use Rattle.std.specs.Int.{w32, int_min, int_max}
 use Rattle.exact.specs.Rounding.{floor, ceiling}
 use Rattle.interval.specs.declared.enclosures.Enclosure.{Enclosure}
 use Rattle.interval.specs.declared.enclosures.Enclosure.TheVariants.{NoBounds, Bounds}
 use Rattle.interval.specs.declared.enclosures.Branch.{Branch}
 use Rattle.interval.specs.declared.enclosures.Branch.TheVariants.{First, Second, Both, Neither}
 use Rattle.interval.specs.declared.enclosures.Sign.{Sign}
-use Rattle.interval.specs.declared.enclosures.Sign.TheVariants.{Plus, Minus, Unknown}
+use Rattle.interval.specs.declared.enclosures.Sign.TheVariants.{Plus, Minus}
 
 -- the largest size of an end: two thousand million counts
 abbrev pub limit : ℤ
@@ -29,6 +29,16 @@ abbrev pub on2 : (ℤ → ℤ → ℤ → ℤ → Enclosure) → Enclosure → E
 on2 f NoBounds q = NoBounds
 on2 f (Bounds a b) NoBounds = NoBounds
 on2 f (Bounds a b) (Bounds d e) = f a b d e
+
+-- what a function answers that calls another, with the outcome P, on ends of 32 bits; no bounds where an operand has none
+abbrev pub OnOne : (ℤ → ℤ → Enclosure → Type 0) → Enclosure → Enclosure → Type 0
+OnOne P NoBounds r = r ≡ NoBounds
+OnOne P (Bounds a b) r = FitsSigned w32 a × FitsSigned w32 b × P a b r
+
+abbrev pub OnBoth : (ℤ → ℤ → ℤ → ℤ → Enclosure → Type 0) → Enclosure → Enclosure → Enclosure → Type 0
+OnBoth P NoBounds q r = r ≡ NoBounds
+OnBoth P (Bounds a b) NoBounds r = r ≡ NoBounds
+OnBoth P (Bounds a b) (Bounds d e) r = FitsSigned w32 a × FitsSigned w32 b × FitsSigned w32 d × FitsSigned w32 e × P a b d e r
 
 abbrev pub least : ℤ → ℤ → ℤ → ℤ → ℤ
 least a b c d = int_min (int_min a b) (int_min c d)
@@ -125,10 +135,10 @@ unfoldable pub chi : Enclosure → Enclosure → Enclosure → Enclosure
 chi s q r = taken (branch s) q r
 
 -- ---- away from zero
--- plus where the lower end is 1 or more, minus where the upper end is −1 or less
-unfoldable pub sign_of : Enclosure → Sign
-sign_of NoBounds = Unknown
-sign_of (Bounds lo hi) = cond (int_le (pos 1) lo) Plus (cond (int_le hi (negsuc 0)) Minus Unknown)
+-- plus where the lower end is 1 or more, minus where the upper end is −1 or less, else none
+unfoldable pub sign_of : Enclosure → Option Sign
+sign_of NoBounds = None
+sign_of (Bounds lo hi) = cond (int_le (pos 1) lo) (Some Plus) (cond (int_le hi (negsuc 0)) (Some Minus) None)
 
 -- the lower end is 1 or more, or the upper end −1 or less
 unfoldable pub clear : Enclosure → Bool

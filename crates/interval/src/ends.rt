@@ -1,19 +1,23 @@
 // Pairs of 64-bit ends on the way to an enclosure. The sizes of ends are such that no sum or product here passes 64 bits.
 ghost use Rattle.std.specs.Prelude.{◌≡◌, ◌^◌, ◌≤◌, pos, ◌*ℤ◌, ◌≢◌, unsigned_abs};
 ghost use Rattle.exact.specs.Rounding.{floor, ceiling};
-ghost use Rattle.interval.specs.Rules.{kept, products, quotients, quotients_apart, least, greatest, spans_zero, nearest, farthest};
+ghost use Rattle.interval.specs.Rules.{within, kept, products, quotients, quotients_apart, least, greatest, spans_zero, nearest, farthest};
 
-use crate::enclosures;
-use crate::enclosures::Enclosure;
+use crate::enclosures::{Enclosure, LIMIT};
 use exact::{ceil_div, floor_div};
 
-const LIMIT: i64 = enclosures::LIMIT as i64;
+// Whether an end lies within the limit.
+fn within(z: i64) -> bool
+    ensures { result ≡ within z }
+{
+    (-LIMIT as i64..=LIMIT as i64).contains(&z)
+}
 
 // The pair, or no bounds where an end lies beyond the limit.
 pub fn keep(lo: i64, hi: i64) -> Enclosure
     ensures { result ≡ kept lo hi }
 {
-    if -LIMIT <= lo && lo <= LIMIT && -LIMIT <= hi && hi <= LIMIT {
+    if within(lo) && within(hi) {
         Enclosure::Bounds {
             lo: lo as i32,
             hi: hi as i32,
@@ -27,7 +31,7 @@ pub fn keep(lo: i64, hi: i64) -> Enclosure
 pub fn spans_zero(lo: i32, hi: i32) -> bool
     ensures { result ≡ spans_zero lo hi }
 {
-    lo <= 0 && 0 <= hi
+    (lo..=hi).contains(&0)
 }
 
 // The least and the greatest distance of a pair from zero.
@@ -47,6 +51,7 @@ pub fn farthest_size(lo: i32, hi: i32) -> i64
     (lo as i64).abs().max((hi as i64).abs())
 }
 
+// Of four numbers, and not of an array: the clauses name each.
 fn least_of(a: i64, b: i64, c: i64, d: i64) -> i64
     ensures { result ≡ least a b c d }
 {
@@ -66,7 +71,8 @@ fn times(a: i32, d: i32) -> i64
     a as i64 * d as i64
 }
 
-// n/d rounded down and up. A quotient of such numbers always fits, so the 0 stands for nothing.
+// n/d rounded down and up. A quotient of such numbers always fits, so the 0 stands for nothing. One function that takes the rounding
+// would have to take what it promises too, which is no plainer.
 fn down(n: i64, d: i64) -> i64
     requires size { unsigned_abs n ≤ 2 ^ 62 }
     requires nonzero { d ≢ pos 0 }
@@ -110,10 +116,7 @@ fn quotients_of(a: i32, b: i32, d: i32, e: i32) -> Enclosure
 pub fn divide(a: i32, b: i32, d: i32, e: i32) -> Enclosure
     ensures { result ≡ quotients_apart a b d e }
 {
-    if spans_zero(d, e) {
-        return Enclosure::NoBounds;
-    }
-    if spans_zero(e, d) {
+    if spans_zero(d, e) || spans_zero(e, d) {
         return Enclosure::NoBounds;
     }
     quotients_of(a, b, d, e)

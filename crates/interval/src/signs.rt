@@ -1,39 +1,39 @@
 // Whether an enclosure is away from zero, and on which side.
-ghost use Rattle.std.specs.Prelude.{◌≡◌, true};
+ghost use Rattle.std.specs.Prelude.{◌≡◌, true, is_some};
+ghost use Rattle.std.specs.Option.{IfSome};
 ghost use Rattle.exact.specs.Value.{Value};
 ghost use Rattle.interval.specs.Rules.{clear, sign_of};
-ghost use Rattle.interval.specs.Meaning.{Holds, Shows, Away, is_known};
+ghost use Rattle.interval.specs.Meaning.{Holds, Shows, Away};
 
 use crate::enclosures::Enclosure::Bounds;
 use crate::enclosures::{Enclosure, Sign};
 
 impl Enclosure {
     // Clear: every value that it holds is one count or more from zero.
+    #[tactic(auto, using(crate::proofs::Clear::told))]
     pub fn is_clear(self) -> bool
         ensures rule { result ≡ clear self }
         ensures law { result ≡ true → (x : Value) → Holds self x → Away x }
-        ensures signed { result ≡ is_known (sign_of self) }
+        ensures signed { result ≡ is_some (sign_of self) }
     {
-        let Bounds { lo, hi } = self else {
-            return false;
-        };
-        lo >= 1 || hi <= -1
+        self.sign().is_some()
     }
 
-    // The sign of every value that it holds; unknown where it is not clear.
-    pub fn sign(self) -> Sign
+    // The sign of every value that it holds; none where it is not clear.
+    #[tactic(auto, using(crate::proofs::Clear::sign_shows), unfolding(crate::specs::Rules::sign_of))]
+    pub fn sign(self) -> Option<Sign>
         ensures rule { result ≡ sign_of self }
-        ensures law { (x : Value) → Holds self x → Shows result x }
+        ensures law { (x : Value) → Holds self x → IfSome result (λ s. Shows s x) }
     {
         let Bounds { lo, hi } = self else {
-            return Sign::Unknown;
+            return None;
         };
         if lo >= 1 {
-            Sign::Plus
+            Some(Sign::Plus)
         } else if hi <= -1 {
-            Sign::Minus
+            Some(Sign::Minus)
         } else {
-            Sign::Unknown
+            None
         }
     }
 }

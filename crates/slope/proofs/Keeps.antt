@@ -186,5 +186,29 @@ reading_keeps δ o t h = record { point = holds o h; inside = holds o h; middle 
     holds (Some r) h = units_between r.lo r.hi t h
 
 -- ---- what a rule's function answers
-pub follows : (rule : Slope) (Law : Slope → Type 0) (r : Slope) → Law rule → r ≡ rule → Follows rule Law r
+follows : (rule : Slope) (Law : Slope → Type 0) (r : Slope) → Law rule → r ≡ rule → Follows rule Law r
 follows rule Law r l e = record { same = e; law = subst Law (sym e) l }
+
+pub neg_follows : (i r : Slope) → r ≡ neg_slope i → Follows (neg_slope i) (Law1 (each negated) i) r
+neg_follows i r = follows (neg_slope i) (Law1 (each negated) i) r (neg_keeps i)
+
+pub abs_follows : (i r : Slope) → r ≡ abs_slope i → Follows (abs_slope i) (Law1 (each absolute) i) r
+abs_follows i r = follows (abs_slope i) (Law1 (each absolute) i) r (abs_keeps i)
+
+pub add_follows : (i j r : Slope) → r ≡ add_slope i j → Follows (add_slope i j) (Law2 (both plus) i j) r
+add_follows i j r = follows (add_slope i j) (Law2 (both plus) i j) r (add_keeps i j)
+
+pub sub_follows : (i j r : Slope) → r ≡ sub_slope i j → Follows (sub_slope i j) (Law2 (both minus) i j) r
+sub_follows i j r = follows (sub_slope i j) (Law2 (both minus) i j) r (sub_keeps i j)
+
+pub mul_follows : (i j r : Slope) → r ≡ mul_slope i j → Follows (mul_slope i j) (Law2 (both times) i j) r
+mul_follows i j r = follows (mul_slope i j) (Law2 (both times) i j) r (mul_keeps i j)
+
+pub div_follows : (i j r : Slope) → r ≡ div_slope i j → Follows (div_slope i j) (Law2 quotient i j) r
+div_follows i j r = follows (div_slope i j) (Law2 quotient i j) r (div_keeps i j)
+
+pub max_follows : (i j r : Slope) → r ≡ max_slope i j → Follows (max_slope i j) (Law2 (both larger) i j) r
+max_follows i j r = follows (max_slope i j) (Law2 (both larger) i j) r (max_keeps i j)
+
+pub chi_follows : (i j k r : Slope) → r ≡ chi_slope i j k → Follows (chi_slope i j k) (Law3 choice i j k) r
+chi_follows i j k r = follows (chi_slope i j k) (Law3 choice i j k) r (chi_keeps i j k)

@@ -20,12 +20,16 @@ at z = held (Bounds z z)
 abbrev pub x_slope : Cell → Slope
 x_slope c = record { v = held (Bounds c.lo c.hi); u = at (middle c); s = at (pos 1000) }
 
--- a constant, and a temperature, which is the same at every point: the slope is 0, also where the reading is absent
+-- what is the same at every point: the slope is 0, also where it has no bounds
+abbrev pub level_slope : Enclosure → Slope
+level_slope e = record { v = e; u = e; s = at (pos 0) }
+
+-- a constant, and a temperature
 abbrev pub constant_slope : ℤ → Slope
-constant_slope k = record { v = at k; u = at k; s = at (pos 0) }
+constant_slope k = level_slope (at k)
 
 abbrev pub reading_slope : Option Reading → Slope
-reading_slope o = record { v = reading_pair o; u = reading_pair o; s = at (pos 0) }
+reading_slope o = level_slope (reading_pair o)
 
 abbrev pub neg_slope : Slope → Slope
 neg_slope i = record { v = neg i.v; u = neg i.u; s = neg i.s }

@@ -5,7 +5,7 @@ ghost use Rattle.exact.specs.Fraction.{plus, minus, negated, times, absolute, la
 ghost use Rattle.exact.specs.Value.{each, both, quotient, choice};
 ghost use Rattle.interval.specs.Rules.{held};
 ghost use Rattle.interval.specs.declared.enclosures.Enclosure.TheVariants.{Bounds};
-ghost use Rattle.slope.specs.Rules.{at, x_slope, constant_slope, reading_slope, neg_slope, abs_slope, add_slope, sub_slope, mul_slope, div_slope, max_slope, chi_slope, answer_of};
+ghost use Rattle.slope.specs.Rules.{x_slope, level_slope, constant_slope, reading_slope, neg_slope, abs_slope, add_slope, sub_slope, mul_slope, div_slope, max_slope, chi_slope, answer_of};
 ghost use Rattle.slope.specs.Meaning.{Follows, Law1, Law2, Law3};
 
 use crate::entries::Slope;
@@ -15,22 +15,11 @@ use family::readings::Reading;
 use family::rows::reading_pair;
 use interval::enclosures::Enclosure;
 
-// The pair from z to z.
-fn pair_at(z: i32) -> Enclosure
-    ensures { result ≡ at z }
+// The pair of two ends.
+fn pair(lo: i32, hi: i32) -> Enclosure
+    ensures { result ≡ held (Bounds lo hi) }
 {
-    Enclosure::Bounds { lo: z, hi: z }.held()
-}
-
-// The pair of a cell's ends.
-fn pair_over(cell: Cell) -> Enclosure
-    ensures { result ≡ held (Bounds cell.lo cell.hi) }
-{
-    Enclosure::Bounds {
-        lo: cell.lo,
-        hi: cell.hi,
-    }
-    .held()
+    Enclosure::Bounds { lo, hi }.held()
 }
 
 impl Slope {
@@ -38,50 +27,55 @@ impl Slope {
     pub fn x(cell: Cell) -> Slope
         ensures { result ≡ x_slope cell }
     {
+        let middle = cell.middle();
         Slope {
-            v: pair_over(cell),
-            u: pair_at(cell.middle()),
-            s: pair_at(1000),
+            v: pair(cell.lo, cell.hi),
+            u: pair(middle, middle),
+            s: pair(1000, 1000),
         }
     }
 
-    // A constant: its slope is 0.
+    // What is the same at every point: its slope is 0.
+    fn level(e: Enclosure) -> Slope
+        ensures { result ≡ level_slope e }
+    {
+        Slope {
+            v: e,
+            u: e,
+            s: pair(0, 0),
+        }
+    }
+
+    // A constant.
     pub fn constant(v: i32) -> Slope
         ensures { result ≡ constant_slope v }
     {
-        let e = pair_at(v);
-        Slope {
-            v: e,
-            u: e,
-            s: pair_at(0),
-        }
+        Slope::level(pair(v, v))
     }
 
-    // A temperature, the same at every point: its slope is 0.
+    // A temperature.
     pub fn reading(o: Option<Reading>) -> Slope
         ensures { result ≡ reading_slope o }
     {
-        let e = reading_pair(o);
-        Slope {
-            v: e,
-            u: e,
-            s: pair_at(0),
-        }
+        Slope::level(reading_pair(o))
     }
 
+    // The rules below name each part, also where all three follow one rule: a function that takes the rule would be no plainer.
+
     // Part by part.
+    #[tactic(auto, using(crate::proofs::Keeps::neg_follows))]
     pub fn neg(self) -> Slope
         ensures { Follows (neg_slope self) (Law1 (each negated) self) result }
     {
-        let turned = self.s.neg();
         Slope {
             v: self.v.neg(),
             u: self.u.neg(),
-            s: turned,
+            s: self.s.neg(),
         }
     }
 
     // The slope bends where v may change its sign.
+    #[tactic(auto, using(crate::proofs::Keeps::abs_follows))]
     pub fn abs(self) -> Slope
         ensures { Follows (abs_slope self) (Law1 (each absolute) self) result }
     {
@@ -93,6 +87,7 @@ impl Slope {
     }
 
     // Part by part.
+    #[tactic(auto, using(crate::proofs::Keeps::add_follows))]
     pub fn add(self, other: Slope) -> Slope
         ensures { Follows (add_slope self other) (Law2 (both plus) self other) result }
     {
@@ -104,6 +99,7 @@ impl Slope {
     }
 
     // Part by part.
+    #[tactic(auto, using(crate::proofs::Keeps::sub_follows))]
     pub fn sub(self, other: Slope) -> Slope
         ensures { Follows (sub_slope self other) (Law2 (both minus) self other) result }
     {
@@ -115,6 +111,7 @@ impl Slope {
     }
 
     // v times the other's slope, plus the slope times the other's u.
+    #[tactic(auto, using(crate::proofs::Keeps::mul_follows))]
     pub fn mul(self, other: Slope) -> Slope
         ensures { Follows (mul_slope self other) (Law2 (both times) self other) result }
     {
@@ -128,6 +125,7 @@ impl Slope {
     }
 
     // The slope less the quotient at the middle times the other's slope, over the other's v.
+    #[tactic(auto, using(crate::proofs::Keeps::div_follows))]
     pub fn div(self, other: Slope) -> Slope
         ensures { Follows (div_slope self other) (Law2 quotient self other) result }
     {
@@ -141,6 +139,7 @@ impl Slope {
     }
 
     // The slope of the line that lies strictly above, else both.
+    #[tactic(auto, using(crate::proofs::Keeps::max_follows))]
     pub fn max(self, other: Slope) -> Slope
         ensures { Follows (max_slope self other) (Law2 (both larger) self other) result }
     {
@@ -152,6 +151,7 @@ impl Slope {
     }
 
     // The slope of the line that v chooses over the whole cell.
+    #[tactic(auto, using(crate::proofs::Keeps::chi_follows))]
     pub fn chi(self, q: Slope, r: Slope) -> Slope
         ensures { Follows (chi_slope self q r) (Law3 choice self q r) result }
     {
@@ -167,10 +167,11 @@ impl Slope {
     pub fn answer(self, cell: Cell) -> Enclosure
         ensures { result ≡ answer_of cell self }
     {
-        let reach = pair_over(cell).sub(pair_at(cell.middle()));
+        let middle = cell.middle();
+        let reach = pair(cell.lo, cell.hi).sub(pair(middle, middle));
         match self.u.add(self.s.mul(reach)) {
             Enclosure::NoBounds => self.v,
-            Enclosure::Bounds { lo, hi } => self.v.common(Enclosure::Bounds { lo, hi }),
+            sum => self.v.common(sum),
         }
     }
 }

@@ -9,10 +9,7 @@ use interval::enclosures::{Branch, Enclosure};
 pub fn larger_slope(v: Enclosure, w: Enclosure, s: Enclosure, t: Enclosure) -> Enclosure
     ensures { result ≡ larger_slope v w s t }
 {
-    let Bounds { lo: a, hi: b } = v else {
-        return NoBounds;
-    };
-    let Bounds { lo: d, hi: e } = w else {
+    let (Bounds { lo: a, hi: b }, Bounds { lo: d, hi: e }) = (v, w) else {
         return NoBounds;
     };
     if e < a {
@@ -47,7 +44,6 @@ pub fn chosen_slope(v: Enclosure, q: Enclosure, r: Enclosure) -> Enclosure
     match v.branch() {
         Branch::First => q,
         Branch::Second => r,
-        Branch::Both => NoBounds,
-        Branch::Neither => NoBounds,
+        Branch::Both | Branch::Neither => NoBounds,
     }
 }

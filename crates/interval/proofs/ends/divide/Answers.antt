@@ -1,16 +1,20 @@
-use Rattle.std.proofs.Common.{cond, ◌||◌, ◌∙◌}
-use Rattle.std.proofs.lemmas.Int.{to_z-of_z}
-use Rattle.interval.specs.declared.enclosures.Enclosure.TheVariants.{NoBounds}
-use Rattle.interval.specs.Rules.{quotients}
+use Rattle.std.proofs.Common.{◌≡◌, true, false, rules}
+use Rattle.interval.specs.Rules.{quotients, spans_zero}
 use Rattle.interval.proofs.ends.divide.Goals as goal
+use Rattle.interval.proofs.ends.divide.Goals.{then-spans_zero-via-then-spans_zero, then-spans_zero-via-else-spans_zero+then-spans_zero-2}
 
 pub returns : goal.returns
 returns c =
-    let fa = c.ranges.a in
-    let fb = c.ranges.b in
-    let fd = c.ranges.d in
-    let fe = c.ranges.e in
-    let s = simp to_z-of_z at c.if-spans_zero.ensures in
-    let t = simp to_z-of_z at c.if-spans_zero-2.ensures in
-    let q = simp to_z-of_z at c.quotients_of.ensures in
-    q ∙ (λ i. cond (s i || t i) NoBounds (quotients c.args.a c.args.b c.args.d c.args.e))
+    let s : spans_zero c.args.d c.args.e ≡ false = search rules in
+    let t : spans_zero c.args.e c.args.d ≡ false = search rules in
+    let q : c.quotients_of.result ≡ quotients c.args.a c.args.b c.args.d c.args.e = search rules in
+    rw (s, t) q
+
+pub returns-then-spans_zero : goal.returns-then-spans_zero
+returns-then-spans_zero c = elim c.then-spans_zero.branch [
+  | then-spans_zero-via-then-spans_zero w ↦ let s : spans_zero c.args.d c.args.e ≡ true = search rules in rw s
+  | then-spans_zero-via-else-spans_zero+then-spans_zero-2 w ↦
+      let s : spans_zero c.args.d c.args.e ≡ false = search rules in
+      let t : spans_zero c.args.e c.args.d ≡ true = search rules in
+      rw (s, t)
+]
