@@ -1,5 +1,5 @@
 -- The numbers on the way to a height fit 64 bits, and the height fits 32.
-use Rattle.std.proofs.Common.{◌≡◌, ◌*◌, ◌^◌, ◌≤◌, true, ◌&&◌, ℤ, pos, negsuc, ◌+ℤ◌, ◌-ℤ◌, ◌*ℤ◌, neg_ℤ, nat_abs, ◌≤ℤ◌, ◌<ℤ◌, sym, refl, ap, ◌∙◌, subst, arith, w32, w64, SFits, to_z, of_z}
+use Rattle.std.proofs.Common.{◌≡◌, ◌*◌, ◌^◌, ◌≤◌, true, ◌&&◌, ℤ, pos, negsuc, ◌+ℤ◌, ◌-ℤ◌, ◌*ℤ◌, neg_ℤ, nat_abs, ◌≤ℤ◌, ◌<ℤ◌, sym, refl, ap, ◌∙◌, arith, w32, w64, SFits, to_z, of_z}
 use lib.Signed.{le_z}
 use mir.Syntax.{Width}
 use borrow.Author.Differences.{ints}
@@ -149,11 +149,16 @@ module _ (k l : Knot) (x : ℤ) (up : k.x <ℤ l.x) where
       λ i. record { lo = (lo ∙ (λ j. floor (n j) (d j))) i; hi = (hi ∙ (λ j. ceiling (n j) (d j))) i }
 
 -- ---- all of it as the code has it
-pub record Rounds (n d : ℤ) : Type 0 where
-  pub size : nat_abs n ≤ 2 ^ 62
-  pub positive : pos 0 <ℤ d
-  pub low : (neg_ℤ limit *ℤ d) ≤ℤ n
-  pub high : n ≤ℤ (limit *ℤ d)
+-- the sum n of the two products, the whole way d, and the extent e that rounds n/d
+pub record Walked (k l : Knot) (x p q a b : ℤ) : Type 0 where
+  pub sum_fits : SFits w64 (again w64 a +ℤ again w64 b)
+  pub way_fits : SFits w64 (again w64 p +ℤ again w64 q)
+  pub size : nat_abs (again w64 (again w64 a +ℤ again w64 b)) ≤ 2 ^ 62
+  pub positive : pos 0 <ℤ again w64 (again w64 p +ℤ again w64 q)
+  pub low : (neg_ℤ limit *ℤ again w64 (again w64 p +ℤ again w64 q)) ≤ℤ again w64 (again w64 a +ℤ again w64 b)
+  pub high : again w64 (again w64 a +ℤ again w64 b) ≤ℤ (limit *ℤ again w64 (again w64 p +ℤ again w64 q))
+  pub is_line : (e : Extent) → e.lo ≡ floor (again w64 (again w64 a +ℤ again w64 b)) (again w64 (again w64 p +ℤ again w64 q)) → e.hi ≡ ceiling (again w64 (again w64 a +ℤ again w64 b)) (again w64 (again w64 p +ℤ again w64 q))
+      → e ≡ rounded (line k l (whole x)) (line k l (whole x))
 
 module _ (k l : Knot) (x : ℤ) (rk : ranged k ≡ true) (rl : ranged l ≡ true) (h : k.x <ℤ x) (i : x ≤ℤ l.x) (p q a b : ℤ) (fp : SFits w64 p) (fq : SFits w64 q) (fa : SFits w64 a) (fb : SFits w64 b)
     (ep : p ≡ again w32 x -ℤ again w32 k.x) (eq : q ≡ again w32 l.x -ℤ again w32 x) (ea : a ≡ again w32 k.y *ℤ again w64 q) (eb : b ≡ again w32 l.y *ℤ again w64 p) (sa : nat_abs a ≤ 2 ^ 52) (sb : nat_abs b ≤ 2 ^ 52) where
@@ -169,24 +174,19 @@ module _ (k l : Knot) (x : ℤ) (rk : ranged k ≡ true) (rl : ranged l ≡ true
   second : b ≡ l.y *ℤ p
   second = times_is k l x rk rl h i l rl b p fp eb
 
-  the_way : OnTheWay p q a b
-  the_way = on_the_way k l x rk rl h i p q a b before after first second sa sb
-
-  pub sum_fits : SFits w64 (again w64 a +ℤ again w64 b)
-  sum_fits = simp to_z-of_z the_way.sum
-
-  pub way_fits : SFits w64 (again w64 p +ℤ again w64 q)
-  way_fits = simp to_z-of_z the_way.whole_way
-
-  n_is : again w64 (again w64 a +ℤ again w64 b) ≡ a +ℤ b
-  n_is = let f = the_way.sum in simp to_z-of_z
-
-  d_is : again w64 (again w64 p +ℤ again w64 q) ≡ p +ℤ q
-  d_is = let f = the_way.whole_way in simp to_z-of_z
-
-  pub rounds : Rounds (again w64 (again w64 a +ℤ again w64 b)) (again w64 (again w64 p +ℤ again w64 q))
-  rounds = let w = the_way in subst (λ (n : ℤ). Rounds n (again w64 (again w64 p +ℤ again w64 q))) (sym n_is) (subst (λ (d : ℤ). Rounds (a +ℤ b) d) (sym d_is) (record { size = w.size; positive = w.positive; low = w.low; high = w.high }))
-
-  pub is_line : (e : Extent) → e.lo ≡ floor (again w64 (again w64 a +ℤ again w64 b)) (again w64 (again w64 p +ℤ again w64 q)) → e.hi ≡ ceiling (again w64 (again w64 a +ℤ again w64 b)) (again w64 (again w64 p +ℤ again w64 q))
-      → e ≡ rounded (line k l (whole x)) (line k l (whole x))
-  is_line e lo hi = line-rounded k l x (omega (arith, linear)) e p q a b before after first second (lo ∙ (λ j. floor (n_is j) (d_is j))) (hi ∙ (λ j. ceiling (n_is j) (d_is j)))
+  pub walked : Walked k l x p q a b
+  walked =
+      let w = on_the_way k l x rk rl h i p q a b before after first second sa sb in
+      let fn = w.sum in
+      let fd = w.whole_way in
+      let n : again w64 (again w64 a +ℤ again w64 b) ≡ a +ℤ b = simp to_z-of_z in
+      let d : again w64 (again w64 p +ℤ again w64 q) ≡ p +ℤ q = simp to_z-of_z in
+      record {
+        sum_fits = simp to_z-of_z fn;
+        way_fits = simp to_z-of_z fd;
+        size = simp to_z-of_z w.size;
+        positive = simp to_z-of_z w.positive;
+        low = simp to_z-of_z w.low;
+        high = simp to_z-of_z w.high;
+        is_line = λ e lo hi. line-rounded k l x (omega (arith, linear)) e p q a b before after first second (lo ∙ (λ j. floor (n j) (d j))) (hi ∙ (λ j. ceiling (n j) (d j)));
+      }

@@ -1,6 +1,7 @@
 -- The least and the greatest height of a table over a cell. A straight line has them at its ends, so they are found among the heights
 -- at the cell's ends and those of the knots inside.
 use Rattle.std.specs.Prelude.{Bool, cond, ◌&&◌, List, [], ◌∷◌, int_le}
+use Rattle.std.specs.Int.{int_min, int_max}
 use Rattle.exact.specs.Fraction.{Fraction, whole, smaller, larger, floor_of, ceiling_of, ◌≃◌, ◌≼◌}
 use Rattle.family.specs.declared.cells.Cell.{Cell}
 use Rattle.family.specs.Cells.{InCell}
@@ -29,6 +30,10 @@ greatest ks c = extreme larger ks c
 -- the whole counts around: the least rounded down, the greatest rounded up
 abbrev pub rounded : Fraction → Fraction → Extent
 rounded u v = record { lo = floor_of u; hi = ceiling_of v }
+
+-- the least extent that has both
+abbrev pub joined : Extent → Extent → Extent
+joined e f = record { lo = int_min e.lo f.lo; hi = int_max e.hi f.hi }
 
 abbrev pub extent_of : List Knot → Cell → Extent
 extent_of ks c = rounded (least ks c) (greatest ks c)

@@ -1,6 +1,5 @@
 // The heights of a table: at one opening, and over a cell.
 ghost use Rattle.std.specs.Prelude.{◌≡◌, ◌^◌, ◌≤◌, true, pos, ◌-ℤ◌, ◌*ℤ◌, neg_ℤ, ◌≤ℤ◌, ◌<ℤ◌, unsigned_abs};
-ghost use Rattle.std.specs.Int.{int_min, int_max};
 ghost use Rattle.exact.specs.Fraction.{whole};
 ghost use Rattle.exact.specs.Rounding.{floor, ceiling};
 ghost use Rattle.interval.specs.Rules.{limit};
@@ -8,7 +7,7 @@ ghost use Rattle.family.specs.Cells.{exists};
 ghost use Rattle.knots.specs.Knots.{ranged};
 ghost use Rattle.knots.specs.Tables.{knots_of};
 ghost use Rattle.knots.specs.Values.{up_to, line, height_at};
-ghost use Rattle.knots.specs.Extremes.{inside, rounded, extent_of, Extremes};
+ghost use Rattle.knots.specs.Extremes.{inside, rounded, joined, extent_of, Extremes};
 
 use crate::extents::Extent;
 use crate::knots::Knot;
@@ -90,8 +89,7 @@ impl Knot {
 impl Extent {
     // The least extent that has both.
     fn joined(self, other: Extent) -> Extent
-        ensures lo { result.lo ≡ int_min self.lo other.lo }
-        ensures hi { result.hi ≡ int_max self.hi other.hi }
+        ensures { result ≡ joined self other }
     {
         Extent {
             lo: self.lo.min(other.lo),
@@ -106,20 +104,11 @@ impl KnotTable {
         ensures { result ≡ rounded (height_at (knots_of self.now) (whole x)) (height_at (knots_of self.now) (whole x)) }
     {
         let knots = self.knots();
-        let [first, rest @ ..] = knots else {
-            return Extent { lo: 0, hi: 0 };
-        };
-        if first.reaches(x) {
-            return first.level();
+        match knots.iter().position(|knot| knot.reaches(x)) {
+            Some(0) => knots[0].level(),
+            Some(n) => knots[n - 1].height_toward(knots[n], x),
+            None => knots[knots.len() - 1].level(),
         }
-        let mut before = *first;
-        for knot in rest {
-            if knot.reaches(x) {
-                return before.height_toward(*knot, x);
-            }
-            before = *knot;
-        }
-        before.level()
     }
 
     // The whole counts between which the table lies over a cell: its least height there rounded down, its greatest rounded up.
@@ -128,12 +117,9 @@ impl KnotTable {
         ensures law { exists cell ≡ true → Extremes (knots_of self.now) cell }
     {
         let (left, right) = (self.height(cell.lo), self.height(cell.hi));
-        let mut extent = left.joined(right);
-        for knot in self.knots() {
-            if knot.is_inside(cell) {
-                extent = extent.joined(knot.level());
-            }
-        }
-        extent
+        self.knots().iter().filter(|knot| knot.is_inside(cell)).fold(
+            left.joined(right),
+            |extent, knot| extent.joined(knot.level()),
+        )
     }
 }

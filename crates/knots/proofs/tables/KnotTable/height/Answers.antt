@@ -1,86 +1,75 @@
-use Rattle.std.proofs.Common.{◌≡◌, ◌+◌, ◌≤◌, List, ◌∷◌, length, get_or, drop, ℤ, pos, sym, ap, ◌∙◌, subst, arith, w32, SFits, to_z, of_z, ltb-false, ltb-true}
-use Rattle.std.proofs.lemmas.List.{at_drop_more, at_drop_all}
+use Rattle.std.proofs.Common.{◌≡◌, ℕ, ◌<◌, ◌≤◌, ◌-◌, true, List, Some, subst, length, get_or, pos, sym, refl, ap, ◌∙◌, arith, rules, tests}
+use borrow.Author.Differences.{ints}
 use Rattle.std.proofs.lemmas.Int.{to_z-of_z}
+use Rattle.std.proofs.lemmas.Iterator.{IsFirst-from_position, YieldsList-from_slice}
+use Rattle.std.proofs.lemmas.List.Recursion.{and_at}
 use Rattle.exact.specs.Fraction.{Fraction, whole}
 use Rattle.knots.specs.declared.knots.Knot.{Knot}
-use Rattle.knots.specs.declared.extents.Extent.{Extent}
-use Rattle.knots.specs.declared.tables.KnotTable.{KnotTable}
+use Rattle.knots.specs.Knots.{ranged, all_ranged}
 use Rattle.knots.specs.Tables.{knots_of}
-use Rattle.knots.specs.Values.{line, right_of, height_at}
+use Rattle.knots.specs.Values.{line, height_at}
 use Rattle.knots.specs.Extremes.{rounded}
 use Rattle.knots.proofs.Making.{table_sound}
-use Rattle.knots.proofs.Walks.{behind, first_and_rest, Walking, walking, at_first, left_ranged, right_ranged, reached, on_segment, onward}
+use Rattle.knots.proofs.Walks.{Reaches, Passed, First, at_first, between_two, past_last}
 use Rattle.knots.proofs.tables.KnotTable.height.Goals as goal
+use Rattle.knots.proofs.tables.KnotTable.height.Goals.{After-position}
 
 abbrev none : Knot
 none = record { x = pos 0; y = pos 0 }
 
--- the opening, which the code takes to its bits and back
-abbrev again : ℤ → ℤ
-again x = to_z w32 (of_z w32 x)
+module _ (c : After-position) where
+  abbrev ks : List Knot
+  ks = c.knots-knots.result.now
 
-told : (t : KnotTable) (x : ℤ) → SFits w32 x → (e : Extent) (u : Fraction) → e ≡ rounded u u → height_at (knots_of t) (whole (again x)) ≡ u → e ≡ rounded (height_at (knots_of t) (whole x)) (height_at (knots_of t) (whole x))
-told t x f e u p q = p ∙ ap (λ (v : Fraction). rounded v v) (sym q ∙ ap (λ (z : ℤ). height_at (knots_of t) (whole z)) (to_z-of_z w32 x f))
+  found : First c.args.x none ks c.position.result
+  found = IsFirst-from_position _ _ _ (Reaches c.args.x none) (Passed c.args.x none) c.position.ensures.ran (YieldsList-from_slice ks cc) (λ k q h. search (rules, tests)) (λ k q h. search (rules, tests))
 
-pub returns-in_default : goal.returns-in_default
-returns-in_default c =
-    let s = table_sound c.args.self.now in
-    let e = ap length c.knots-knots.ensures in
-    absurd (omega (arith, ltb-true, s.some))
+  found_at : (n : ℕ) → c.position.result ≡ Some n → First c.args.x none ks (Some n)
+  found_at n e = subst (First c.args.x none ks) e found
 
-pub returns-then-reaches : goal.returns-then-reaches
-returns-then-reaches c =
-    let kn = c.knots-knots.result.now in
-    let h : 1 ≤ length kn = omega (arith, ltb-false) in
-    told c.args.self.now c.args.x c.ranges.x c.level.result (whole (get_or kn 0 none).y) c.level.ensures
-    (at_first (knots_of c.args.self.now) (again c.args.x) (get_or kn 0 none) (behind 1 kn) (sym c.knots-knots.ensures ∙ first_and_rest kn none h) c.if-reaches.ensures)
+  -- a height of the knots is one of the table
+  told : (u : Fraction) → height_at ks (whole c.args.x) ≡ u → rounded u u ≡ rounded (height_at (knots_of c.args.self.now) (whole c.args.x)) (height_at (knots_of c.args.self.now) (whole c.args.x))
+  told u e = ap (λ (v : Fraction). rounded v v) (sym e ∙ ap (λ (ls : List Knot). height_at ls (whole c.args.x)) c.knots-knots.ensures)
 
-pub loop-knot-init : goal.loop-knot-init
-loop-knot-init c =
-    let s = table_sound c.args.self.now in
-    let kn = c.knots-knots.result.now in
-    let h : 1 ≤ length kn = omega (arith, ltb-false) in
-    walking (knots_of c.args.self.now) (again c.args.x) (get_or kn 0 none) (behind 1 kn) (sym c.knots-knots.ensures ∙ first_and_rest kn none h) s.range s.ascends c.if-reaches.ensures
+  some : 2 ≤ length ks
+  some = let s = table_sound c.args.self.now in let e = ap length c.knots-knots.ensures in omega (arith, s.some)
 
--- at the knot that is looked at
-module _ (t : KnotTable) (x : ℤ) (k : Knot) (rest : List Knot) (n : Prim.Native.Nat.ℕ) (lt : Prim.Native.Nat.◌<◌ n (length rest)) (w : Walking (knots_of t) x k (drop n rest)) where
-  here : Walking (knots_of t) x k (get_or rest n none ∷ drop (n + 1) rest)
-  here = subst (λ (ls : List Knot). Walking (knots_of t) x k ls) (Rattle.std.proofs.lemmas.List.drop_more rest n none lt) w
+  range : (n : ℕ) → n < length ks → ranged (get_or ks n none) ≡ true
+  range n h = let s = table_sound c.args.self.now in and_at all_ranged ranged refl (λ _ _. refl) ks n none h (ap all_ranged c.knots-knots.ensures ∙ s.range)
 
 pub height_toward-requires : goal.height_toward-requires
 height_toward-requires c =
-    let rest = behind 1 c.knots-knots.result.now in
-    let n = c.loop-knot.knot-index in
-    let x = again c.args.x in
-    let k = c.loop-knot.before in
-    let w = here c.args.self.now x k rest n c.loop-knot-test.true c.loop-knot.invariant in
-    let ks = knots_of c.args.self.now in
-    let l = get_or rest n none in
-    let ls = drop (n + 1) rest in
-    record { left = left_ranged ks x k l ls w; right = right_ranged ks x k l ls w; after = w.beyond; upto = reached ks x k l ls w c.if-reaches-2.ensures }
+    let p = (goal.at.height_toward-requires c).After-position in
+    let n = c.in-Some.n in
+    let f = found_at p n c.in-Some.is in
+    let x = c.ranges.x in
+    let reached = f.1 none in
+    let passed = f.2 (n - 1) none (omega arith) (omega arith) in
+    record {
+      left = range p (n - 1) (omega (arith, f.0));
+      right = range p n f.0;
+      after = simp to_z-of_z (omega (arith, ints));
+      upto = simp to_z-of_z (omega (arith, ints));
+    }
 
-pub returns-then-reaches-2 : goal.returns-then-reaches-2
-returns-then-reaches-2 c =
-    let rest = behind 1 c.knots-knots.result.now in
-    let n = c.loop-knot.knot-index in
-    let x = again c.args.x in
-    let k = c.loop-knot.before in
-    let w = here c.args.self.now x k rest n c.loop-knot-test.true c.loop-knot.invariant in
-    told c.args.self.now c.args.x c.ranges.x c.height_toward.result (line k (get_or rest n none) (whole x)) c.height_toward.ensures (on_segment (knots_of c.args.self.now) x k (get_or rest n none) (drop (n + 1) rest) w c.if-reaches-2.ensures)
+pub returns-in-Some-eq0 : goal.returns-in-Some-eq0
+returns-in-Some-eq0 c =
+    let p = (goal.at.returns-in-Some-eq0 c).After-position in
+    let f = found_at p 0 (c.in-Some-eq0.is ∙ ap Some (omega arith)) in
+    c.level.ensures ∙ told p (whole (get_or (ks p) 0 none).y) (at_first c.args.x none (ks p) f.0 f.1)
 
-pub loop-knot-preserved : goal.loop-knot-preserved
-loop-knot-preserved c =
-    let rest = behind 1 c.knots-knots.result.now in
-    let n = c.loop-knot.knot-index in
-    let x = again c.args.x in
-    let k = c.loop-knot.before in
-    let w = here c.args.self.now x k rest n c.loop-knot-test.true c.loop-knot.invariant in
-    onward (knots_of c.args.self.now) x k (get_or rest n none) (drop (n + 1) rest) w c.if-reaches-2.ensures
+pub returns-in-Some : goal.returns-in-Some
+returns-in-Some c =
+    let p = (goal.at.returns-in-Some c).After-position in
+    let n = c.in-Some.n in
+    let f = found_at p n c.in-Some.is in
+    let x = c.ranges.x in
+    let there : c.height_toward.result ≡ rounded (line (get_or (ks p) (n - 1) none) (get_or (ks p) n none) (whole c.args.x)) (line (get_or (ks p) (n - 1) none) (get_or (ks p) n none) (whole c.args.x)) = simp to_z-of_z at c.height_toward.ensures in
+    there ∙ told p (line (get_or (ks p) (n - 1) none) (get_or (ks p) n none) (whole c.args.x)) (between_two c.args.x none (ks p) (n - 1) n (omega arith) f.0 f.1 f.2)
 
-pub returns : goal.returns
-returns c =
-    let rest = behind 1 c.knots-knots.result.now in
-    let x = again c.args.x in
-    let k = c.loop-knot.before in
-    told c.args.self.now c.args.x c.ranges.x c.level-2.result (whole k.y) c.level-2.ensures
-    (c.loop-knot.invariant.same ∙ at_drop_all (λ (ls : List Knot). right_of k ls (whole x)) rest c.loop-knot.knot-index c.loop-knot-test.false)
+pub returns-in-None : goal.returns-in-None
+returns-in-None c =
+    let p = (goal.at.returns-in-None c).After-position in
+    let f = subst (First c.args.x none (ks p)) c.in-None.is (found p) in
+    let s = some p in
+    c.level-in-None.ensures ∙ told p (whole (get_or (ks p) (length (ks p) - 1) none).y) (past_last c.args.x none (ks p) (length (ks p) - 1) (omega arith) f)
