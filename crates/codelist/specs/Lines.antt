@@ -29,17 +29,8 @@ earlier k (Chi s q r) = nat_lt s k && (nat_lt q k && nat_lt r k)
 
 -- a constant lies within the limit
 abbrev pub ranged : Line → Bool
-ranged X = true
 ranged (C v) = within v
-ranged (R n) = true
-ranged (Neg i) = true
-ranged (Abs i) = true
-ranged (Add i j) = true
-ranged (Sub i j) = true
-ranged (Mul i j) = true
-ranged (Div i j) = true
-ranged (Max i j) = true
-ranged (Chi s q r) = true
+ranged l = true
 
 -- whether a line may be line number k, whatever room there is
 abbrev pub fit : ℕ → Line → Result (Unit {0}) LineRefusal

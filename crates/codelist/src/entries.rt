@@ -10,6 +10,7 @@ pub struct Table<E> {
     ghost sized: { length entries ≡ line_limit },
 }
 
+// By hand: a struct with a type parameter and a ghost field derives no Clone.
 impl<E: Copy> Clone for Table<E> {
     ghost is_clone = { λ x y. y ≡ x };
 

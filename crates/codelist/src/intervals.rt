@@ -7,7 +7,7 @@ use crate::kinds::Kind;
 use family::cells::Cell;
 use family::readings::Reading;
 use family::rows::reading_pair;
-use interval::enclosures::Enclosure;
+use interval::enclosures::{Enclosure, LIMIT};
 
 #[derive(Clone, Copy)]
 pub struct Intervals;
@@ -15,7 +15,7 @@ pub struct Intervals;
 impl Kind for Intervals {
     type Entry = Enclosure;
 
-    const LARGEST: i64 = 2_000_000_000;
+    const LARGEST: i64 = LIMIT as i64;
 
     ghost LARGEST = { limit };
 

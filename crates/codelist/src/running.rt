@@ -54,6 +54,7 @@ fn entry_of<K: Kind>(table: &Table<K::Entry>, line: Line, cell: Cell, row: &Row)
 }
 
 // Runs a list: the entry of each line into its place, and the last line's as the answer. What stands in later places stays.
+// The caller makes the table: a function that makes one for any kind owes that its size fits in memory, and cannot show it.
 pub fn run<K: Kind>(table: &mut Table<K::Entry>, list: &CodeList, cell: Cell, row: &Row) -> K::Entry
     ensures entries { take (length (lines_of list.now)) table.new.entries ≡ entries (over K.rules cell row.now) K.divided (lines_of list.now) }
     ensures rest { drop (length (lines_of list.now)) table.new.entries ≡ drop (length (lines_of list.now)) table.old.entries }

@@ -1,20 +1,12 @@
 -- The kind that tells whether a line surely has a value.
-use Rattle.std.specs.Prelude.{◌≡◌, Bool, true, false, cond, ◌&&◌, List, ◌-◌, length, get_or}
+use Rattle.std.specs.Prelude.{Bool, true, false, cond, ◌&&◌, List}
 use Rattle.exact.specs.Fraction.{Fraction}
 use Rattle.exact.specs.Value.{Value, none, some, each, both, negative, choice}
 use Rattle.family.specs.declared.cells.Cell.{Cell}
 use Rattle.family.specs.Readings.{RowOf}
 use Rattle.codelist.specs.declared.lines.Line.{Line}
-use Rattle.codelist.specs.Bound.{line_limit}
-use Rattle.codelist.specs.Evaluate.{entries}
+use Rattle.codelist.specs.Evaluate.{last_entry}
 use Rattle.codelist.specs.Kinds.{Rules, over, Vouching, KindLaw, DivideLaw}
-use Rattle.defined.specs.declared.tables.Defined.{Defined}
-
-abbrev pub table_of : Defined → List Bool
-table_of s = s.sure
-
-pub surely_sized : (s : Defined) → length (table_of s) ≡ line_limit
-surely_sized s = s.sized
 
 -- the point, a constant and a temperature have a value; what reads such lines has one
 abbrev pub surely : Rules Bool
@@ -47,7 +39,7 @@ vouches_surely e c p v w = HasValue e v × HasValue e w
 
 -- the entry of a list's last line
 abbrev pub sure_of : Cell → RowOf → List Line → Bool
-sure_of c row ls = get_or (entries (over surely c row) never ls) (length ls - 1) false
+sure_of c row ls = last_entry (over surely c row) never ls
 
 -- ---- the law
 one : (f : Fraction → Fraction) (e : Bool) (v : Value) → HasValue e v → HasValue e (each f v)

@@ -3,4 +3,4 @@
 #![tactic(auto)]
 
 pub mod asking;
-pub mod tables;
+pub mod kind;

@@ -1,18 +1,19 @@
 -- The family of lists with slopes is lawful; its entries over the cell are those of the plain lists, and its answer has bounds wherever
 -- theirs has.
-use Rattle.std.specs.Prelude.{◌≡◌, ◌-◌, Bool, true, cond, List, length, Some, None, Option, refl}
+use Rattle.std.specs.Prelude.{◌≡◌, ◌-◌, true, List, length, refl}
 use Rattle.std.proofs.Common.{sym, ap, subst, arith}
 use Rattle.std.proofs.lemmas.Int.{ints}
 use Rattle.exact.specs.Fraction.{Fraction, whole}
 use Rattle.interval.specs.declared.enclosures.Enclosure.{Enclosure}
-use Rattle.interval.specs.declared.enclosures.Enclosure.TheVariants.{NoBounds}
 use Rattle.interval.specs.Rules.{neg, add, sub, mul, div, abs, max, chi}
-use Rattle.interval.specs.Meaning.{Holds, InRange}
-use Rattle.interval.proofs.OneEnd.{cond_if}
+use Rattle.interval.specs.Meaning.{InRange}
 use Rattle.family.specs.declared.cells.Cell.{Cell}
+use Rattle.family.specs.declared.curves.Curves.{Curves}
 use Rattle.family.specs.Cells.{exists, middle, InCell}
 use Rattle.family.specs.Readings.{Temperatures, RowOf, reading_at, Allowed}
 use Rattle.family.specs.Meaning.{Lawful}
+use Rattle.family.specs.Items.{ItemLaw, item_count, item_value, item_answer}
+use Rattle.family.specs.ItemLaws.{items_lawful}
 use Rattle.family.proofs.Inside.{ascends, some_temperature, some_allowed}
 use Rattle.slope.specs.declared.entries.Slope.{Slope}
 use Rattle.slope.specs.Rules.{div_slope}
@@ -21,16 +22,16 @@ use Rattle.slope.proofs.Answering.{answer_holds, answer_bounds, answer_range}
 use Rattle.codelist.specs.declared.lines.Line.{Line}
 use Rattle.codelist.specs.declared.lists.CodeList.{CodeList}
 use Rattle.codelist.specs.Lists.{lines_of}
-use Rattle.codelist.specs.Tables.{list_at}
 use Rattle.codelist.specs.Exact.{value_of}
 use Rattle.codelist.specs.Kinds.{over}
 use Rattle.codelist.specs.RunLaw.{Keeps, keeps_at, vouched_at}
 use Rattle.codelist.specs.Intervals.{pair_rules}
-use Rattle.codelist.specs.Plain.{enclosure_of, value_by}
-use Rattle.codelist.specs.PlainLaw.{lines_range, table_few, no_list}
+use Rattle.codelist.specs.Plain.{enclosure_of, list_value}
+use Rattle.codelist.specs.PlainLaw.{lines_range}
+use Rattle.slopes.specs.declared.kind.Slopes.{Slopes}
 use Rattle.slopes.specs.Kind.{slope_rules, slope_vouches}
 use Rattle.slopes.specs.KindLaws.{slopes_law, slopes_division}
-use Rattle.slopes.specs.Family.{last_slope, slope_enclosure, slope_answer_by, slope_count, slope_value, slope_answer}
+use Rattle.slopes.specs.Family.{last_slope, slope_enclosure, slope_answer}
 
 -- ---- v is the plain list's enclosure
 abbrev Over : Slope → Enclosure → Enclosure → Type 0
@@ -63,14 +64,6 @@ last_vouches : (c : Cell) (row : RowOf) (ls : List Line) (t : Temperatures) (p :
     → Vouches (gap c p) (last_slope c row ls) (value_of t p ls) (value_of t (whole (middle c)) ls)
 last_vouches c row ls t p there allowed inside = vouched_at slope_rules div_slope slope_vouches slopes_law slopes_division c row t p there allowed inside ls (length ls - 1)
 
-list_holds : (l : Option CodeList) (c : Cell) (row : RowOf) (t : Temperatures) (x : Fraction) → exists c ≡ true → Allowed row t → InCell c x → Holds (slope_answer_by l c row) (value_by l t x)
-list_holds None c row t x e h i = tt
-list_holds (Some l) c row t x e h i = answer_holds c x i (last_slope c row (lines_of l)) (value_of t x (lines_of l)) (value_of t (whole (middle c)) (lines_of l)) (last_vouches c row (lines_of l) t x e h i)
-
-list_in_range : (l : Option CodeList) (c : Cell) (row : RowOf) → InRange (slope_answer_by l c row)
-list_in_range None c row = tt
-list_in_range (Some l) c row = answer_range c (last_slope c row (lines_of l)) (over_range c row (lines_of l))
-
 -- the common part is never empty: where the plain enclosure has bounds, so has this
 pub never_empty : (c : Cell) (row : RowOf) (ls : List Line) → exists c ≡ true → HasBounds (enclosure_of c row ls) → HasBounds (slope_enclosure c row ls)
 never_empty c row ls there b =
@@ -81,11 +74,12 @@ never_empty c row ls there b =
     answer_bounds c p i (last_slope c row ls) (value_of t p ls) (value_of t (whole (middle c)) ls) (last_vouches c row ls t p there (some_allowed row) i)
     (over_range c row ls) (subst HasBounds (sym (over_is_plain c row ls)) b)
 
-pub slopes_lawful : Lawful slope_count slope_value slope_answer
-slopes_lawful = record {
-  few = λ s. table_few s.table;
-  holds = λ s k c row t x h i. cond_if (λ e. Holds e (slope_value s k t x)) (exists c) (slope_answer_by (list_at s.table k) c row) NoBounds (λ e. list_holds (list_at s.table k) c row t x e h i) (λ _. tt);
-  range = λ s k c row. cond_if InRange (exists c) (slope_answer_by (list_at s.table k) c row) NoBounds (λ _. list_in_range (list_at s.table k) c row) (λ _. tt);
-  no_curve = λ s k c row h. cond_if (λ e. e ≡ NoBounds) (exists c) (slope_answer_by (list_at s.table k) c row) NoBounds (λ _. ap (λ (l : Option CodeList). slope_answer_by l c row) (no_list s.table k h)) (λ _. refl);
-  no_cell = λ s k c row h. ap (λ (b : Bool). cond b (slope_answer_by (list_at s.table k) c row) NoBounds) h;
+-- ---- the law
+pub sloped_law : ItemLaw list_value slope_answer
+sloped_law = record {
+  holds = λ l c row t x there allowed inside. let ls = lines_of l in answer_holds c x inside (last_slope c row ls) (value_of t x ls) (value_of t (whole (middle c)) ls) (last_vouches c row ls t x there allowed inside);
+  range = λ l c row. answer_range c (last_slope c row (lines_of l)) (over_range c row (lines_of l));
 }
+
+pub slopes_lawful : Lawful {S = Curves CodeList Slopes} item_count (item_value list_value) (item_answer slope_answer)
+slopes_lawful = items_lawful sloped_law

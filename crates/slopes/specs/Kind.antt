@@ -1,14 +1,9 @@
 -- The slope kind: entries with slopes, with the rules on slopes.
-use Rattle.std.specs.Prelude.{List}
 use Rattle.interval.specs.declared.enclosures.Enclosure.TheVariants.{NoBounds}
 use Rattle.slope.specs.declared.entries.Slope.{Slope}
 use Rattle.slope.specs.Rules.{x_slope, constant_slope, reading_slope, neg_slope, abs_slope, add_slope, sub_slope, mul_slope, max_slope, chi_slope}
 use Rattle.slope.specs.Meaning.{gap, Vouches}
 use Rattle.codelist.specs.Kinds.{Rules, Vouching}
-use Rattle.slopes.specs.declared.tables.Slopes.{Slopes}
-
-abbrev pub table_of : Slopes → List Slope
-table_of s = s.entries
 
 abbrev pub blank_slope : Slope
 blank_slope = record { v = NoBounds; u = NoBounds; s = NoBounds }

@@ -1,15 +1,9 @@
 -- The law of the slope kind, from the laws of the rules on slopes.
-use Rattle.std.specs.Prelude.{◌≡◌, length}
 use Rattle.slope.specs.Rules.{div_slope}
 use Rattle.slope.specs.Meaning.{gap}
 use Rattle.slope.proofs.Keeps.{x_keeps, constant_keeps, reading_keeps, neg_keeps, abs_keeps, add_keeps, sub_keeps, mul_keeps, div_keeps, max_keeps, chi_keeps}
-use Rattle.codelist.specs.Bound.{line_limit}
 use Rattle.codelist.specs.Kinds.{KindLaw, DivideLaw}
-use Rattle.slopes.specs.declared.tables.Slopes.{Slopes}
-use Rattle.slopes.specs.Kind.{table_of, slope_rules, slope_vouches}
-
-pub slopes_sized : (s : Slopes) → length (table_of s) ≡ line_limit
-slopes_sized s = s.sized
+use Rattle.slopes.specs.Kind.{slope_rules, slope_vouches}
 
 pub slopes_law : KindLaw slope_rules slope_vouches
 slopes_law = record {

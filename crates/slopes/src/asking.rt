@@ -3,17 +3,17 @@ ghost use Rattle.std.specs.Prelude.{◌≡◌, true};
 ghost use Rattle.family.specs.Cells.{exists};
 ghost use Rattle.slope.specs.Meaning.{HasBounds};
 ghost use Rattle.codelist.specs.Lists.{lines_of};
-ghost use Rattle.codelist.specs.Plain.{enclosure_of};
-ghost use Rattle.slopes.specs.Family.{slope_enclosure, slope_count, slope_value, slope_answer};
-ghost use Rattle.slopes.specs.FamilyLaw.{slopes_lawful};
+ghost use Rattle.codelist.specs.Plain.{enclosure_of, list_value};
+ghost use Rattle.slopes.specs.Family.{slope_enclosure, slope_answer};
+ghost use Rattle.slopes.specs.FamilyLaw.{sloped_law};
 
-use crate::lists::SlopeLists;
-use crate::tables::Slopes;
+use crate::kind::Slopes;
+use codelist::entries::Table;
+use codelist::kinds::Kind;
 use codelist::lists::CodeList;
-use codelist::places::Place;
 use codelist::running::run;
 use family::cells::Cell;
-use family::families::Family;
+use family::curves::{Curves, Enclosing};
 use family::rows::Row;
 use interval::enclosures::Enclosure;
 
@@ -23,32 +23,22 @@ pub fn enclosure_by_slopes(list: &CodeList, cell: Cell, row: &Row) -> Enclosure
     ensures rule { result ≡ slope_enclosure cell row.now (lines_of list.now) }
     ensures bounded { exists cell ≡ true → HasBounds (enclosure_of cell row.now (lines_of list.now)) → HasBounds result }
 {
-    let mut kind = Slopes::new();
-    run(&mut kind, list, cell, row);
-    let last = Place::clamped(list.lines().len().saturating_sub(1));
-    kind.entry(last).answer(cell)
+    let mut table = Table::new(Slopes::blank());
+    let last = run::<Slopes>(&mut table, list, cell, row);
+    last.answer(cell)
 }
 
-impl Family for SlopeLists {
-    ghost count = { slope_count };
+// A family of curves given as code lists, asked with slopes.
+pub type SlopeLists = Curves<CodeList, Slopes>;
 
-    ghost value = { slope_value };
+impl Enclosing<CodeList> for Slopes {
+    ghost value = { list_value };
 
     ghost answer = { slope_answer };
 
-    ghost laws = { slopes_lawful };
+    ghost laws = { sloped_law };
 
-    fn curves(&self) -> usize {
-        self.table.len()
-    }
-
-    fn enclosure(&self, k: usize, cell: Cell, row: &Row) -> Enclosure {
-        if !cell.exists() {
-            return Enclosure::NoBounds;
-        }
-        let Some(list) = self.table.get(k) else {
-            return Enclosure::NoBounds;
-        };
+    fn enclosure(&self, list: &CodeList, cell: Cell, row: &Row) -> Enclosure {
         enclosure_by_slopes(list, cell, row)
     }
 }

@@ -2,8 +2,7 @@
 #![tactic(auto)]
 
 pub mod asking;
-pub mod lists;
-pub mod tables;
+pub mod kind;
 
 #[cfg(test)]
 mod tests {

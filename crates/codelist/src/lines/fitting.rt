@@ -21,7 +21,7 @@ impl Line {
             | Line::Sub(i, j)
             | Line::Mul(i, j)
             | Line::Div(i, j)
-            | Line::Max(i, j) => { is_earlier(i) && is_earlier(j) }
+            | Line::Max(i, j) => is_earlier(i) && is_earlier(j),
             Line::Chi(s, q, r) => is_earlier(s) && is_earlier(q) && is_earlier(r),
         }
     }

@@ -1,5 +1,4 @@
-use Rattle.std.proofs.Common.{◌≡◌, ◌<◌, length, get_or, take, set, ◌∙◌, arith}
-use Rattle.std.proofs.lemmas.List.{drop-set-lt}
+use Rattle.std.proofs.Common.{◌≡◌, ◌<◌, length, get_or, take, set, arith}
 use Rattle.std.proofs.lemmas.Grind.{common_steps}
 use Rattle.codelist.specs.declared.lines.Line.TheVariants.{X}
 use Rattle.codelist.specs.Lists.{lines_of}
@@ -25,7 +24,10 @@ loop-n-preserved g c =
     let room : n < length es = omega (arith, c.loop-n.table.sized) in
     let at : c.clamped.result.n ≡ n = omega arith in
     let filled : c.put.new.self.entries ≡ set es n e = cc in
-    rw filled (next o m.divided ls es n X lt room (reads_earlier list ls is n lt X) c.loop-n.invariant.0, drop-set-lt (length ls) es n e lt ∙ c.loop-n.invariant.1)
+    record {
+      front = rw filled (next o m.divided ls es n X lt room (reads_earlier list ls is n lt X) c.loop-n.invariant.front);
+      rest = grind (arith, common_steps);
+    }
 
 pub returns-clause-vouched : goal.returns-clause-vouched
 returns-clause-vouched g c =
