@@ -1,3 +1,4 @@
+pub mod Mapped
 pub mod Passing
 pub mod CommandRead
 pub mod Knotting

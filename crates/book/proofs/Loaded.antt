@@ -26,14 +26,6 @@ use Rattle.book.proofs.Walking.{records_at, on_found, records_at_lem}
 use Rattle.book.proofs.Gathering.{Lot, gathered, gather_step, Loading, Says, says}
 
 -- ---- the end of the book
--- what an accepted book leaves, gathered in lists and tables
-pub record Done (r : Result (List Entry) Refusal) (old new : Bounded CodeList 8) (old_tables new_tables : Bounded KnotTable 8) : Type 0 where
-  pub answer : Ok tt ≡ load_answer r
-  pub lists : ListsAfter r old new
-  pub tables : TablesAfter r old_tables new_tables
-  pub curves : ListsMean r new
-  pub heights : TablesMean r new_tables
-
 list_means : (o : Option CodeList) (t : Temperatures) (x : Fraction) → value_by list_value o t x ≡ curve_value (option_map lines_of o) t x
 list_means None t x = refl
 list_means (Some l) t x = refl
@@ -50,32 +42,15 @@ abbrev tables_gathered : Result Lot Refusal → List (ℕ × List Knot)
 tables_gathered (Ok l) = l.1
 tables_gathered (Err r) = []
 
-finished : (r : Result (List Entry) Refusal) (old lists : Bounded CodeList 8) (old_tables tables : Bounded KnotTable 8)
-    → gathered (listing lists) (tabling tables) (Ok []) ≡ gathered [] [] r → Done r old lists old_tables tables
-finished (Err r) old lists old_tables tables e = let z : ◌≡◌ {A = ℕ} 0 1 = cc in absurd (omega arith)
-finished (Ok es) old lists old_tables tables e =
+-- the families mean what was gathered
+finished : (r : Result (List Entry) Refusal) (lists : Bounded CodeList 8) (tables : Bounded KnotTable 8) → gathered (listing lists) (tabling tables) (Ok []) ≡ gathered [] [] r → ListsMean r lists × TablesMean r tables
+finished (Err r) lists tables e = let z : ◌≡◌ {A = ℕ} 0 1 = cc in absurd (omega arith)
+finished (Ok es) lists tables e =
     let f : listing lists ≡ curves_in es = sym (append-nil (listing lists)) ∙ ap lists_in e in
-    let g : tabling tables ≡ tables_in es = sym (append-nil (tabling tables)) ∙ ap tables_gathered e in
-    record {
-      answer = refl;
-      lists = f;
-      tables = g;
-      curves = λ way k t x. list_means (item_at lists k) t x ∙ ap (λ o. curve_value o t x) (sym (slice_get-map lines_of (items_of lists) k) ∙ ap (λ ls. slice_get ls k) f);
-      heights = λ way k t x. table_means (item_at tables k) t x ∙ ap (λ o. knots_value o t x) (sym (slice_get-map knotting (items_of tables) k) ∙ ap (λ ks. slice_get ks k) g);
-    }
-
--- what a refused book leaves
-pub record Refused (r : Result (List Entry) Refusal) (f : Refusal) (old : Bounded CodeList 8) (old_tables : Bounded KnotTable 8) : Type 0 where
-  pub answer : Err f ≡ load_answer r
-  pub lists : ListsAfter r old old
-  pub tables : TablesAfter r old_tables old_tables
-  pub curves : ListsMean r old
-  pub heights : TablesMean r old_tables
-
-refused_by : (r : Result (List Entry) Refusal) (f : Refusal) (cs : List (List Line)) (ts : List (ℕ × List Knot)) (lists : Bounded CodeList 8) (tables : Bounded KnotTable 8)
-    → gathered cs ts (Err f) ≡ gathered [] [] r → Refused r f lists tables
-refused_by (Ok es) f cs ts lists tables e = let z : ◌≡◌ {A = ℕ} 0 1 = cc in absurd (omega arith)
-refused_by (Err r) f cs ts lists tables e = record { answer = cc; lists = refl; tables = refl; curves = tt; heights = tt }
+    let g : tabling tables ≡ tables_in es = sym (append-nil (tabling tables)) ∙ ap tables_gathered e in (
+      λ way k t x. list_means (item_at lists k) t x ∙ ap (λ o. curve_value o t x) (sym (slice_get-map lines_of (items_of lists) k) ∙ ap (λ ls. slice_get ls k) f),
+      λ way k t x. table_means (item_at tables k) t x ∙ ap (λ o. knots_value o t x) (sym (slice_get-map knotting (items_of tables) k) ∙ ap (λ ks. slice_get ks k) g),
+    )
 
 -- ---- by what the reader found
 more_curves : (cs : List (List Line)) (n : ℕ) (k : Said) → length cs ≡ n → length (cs ++ curve_of k) ≡ curves_after k n
@@ -90,9 +65,6 @@ module _ (book held : List ℕ) (p : Place) (cs : List (List Line)) (ts : List (
   -- what is gathered so far, by what is found next
   by_found : (o : Option Found) → o ≡ found_at held p → gathered cs ts (on_found book p o) ≡ gathered [] [] (read_book book)
   by_found o e = ap (gathered cs ts) (ap (on_found book p) (e ∙ ap (λ bs. found_at bs p) l.same) ∙ sym (records_at_lem book p)) ∙ l.rule
-
-  pub at_a_refusal : (f : Refusal) (lists : Bounded CodeList 8) (tables : Bounded KnotTable 8) → Some (stopped f) ≡ found_at held p → Refused (read_book book) f lists tables
-  at_a_refusal f lists tables e = refused_by (read_book book) f cs ts lists tables (by_found (Some (stopped f)) e)
 
   -- what holds where a record was found: room for it, and what is kept with one curve or one table more
   module _ (e : Entry) (is : Some (found e) ≡ found_at held p) where
@@ -119,8 +91,8 @@ module _ (book held : List ℕ) (p : Place) (cs : List (List Line)) (ts : List (
           tables = ap length g ∙ more_tables ts p.tables e.said l.tables ∙ ap (λ (x : Place). x.tables) (sym here);
         }
 
-pub at_the_end : (book held : List ℕ) (p : Place) (old lists : Bounded CodeList 8) (old_tables tables : Bounded KnotTable 8) → Loading book held p (listing lists) (tabling tables) → None ≡ found_at held p → Done (read_book book) old lists old_tables tables
-at_the_end book held p old lists old_tables tables l e = finished (read_book book) old lists old_tables tables (by_found book held p (listing lists) (tabling tables) l None e)
+pub at_the_end : (book held : List ℕ) (p : Place) (lists : Bounded CodeList 8) (tables : Bounded KnotTable 8) → Loading book held p (listing lists) (tabling tables) → None ≡ found_at held p → ListsMean (read_book book) lists × TablesMean (read_book book) tables
+at_the_end book held p lists tables l e = finished (read_book book) lists tables (by_found book held p (listing lists) (tabling tables) l None e)
 
 -- what a push leaves, seen through f, where it was answered that there is room; and there is
 pub pushed : {A B : Type 0} (f : A → B) (old new : List A) (item : A) (taken : Bool) → taken ≡ true → new ≡ cond taken (old ++ (item ∷ [])) old → map f new ≡ map f old ++ (f item ∷ [])

@@ -1,5 +1,5 @@
 -- The parts of a record, as slices of the book.
-use Rattle.std.proofs.Common.{◌≡◌, ℕ, ◌+◌, ◌-◌, ◌*◌, ◌<◌, ◌≤◌, Bool, cond, List, [], length, get_or, take, drop, Some, None, Ok, Err, Option, sym, ap, ◌∙◌, arith, lt-ltb}
+use Rattle.std.proofs.Common.{◌≡◌, ℕ, ◌+◌, ◌-◌, ◌*◌, ◌<◌, ◌≤◌, Bool, cond, List, [], length, get_or, take, drop, Some, None, Ok, Err, Option, Result, sym, ap, ◌∙◌, arith, lt-ltb}
 use Rattle.std.proofs.lemmas.List.{drop-drop, length-drop, get_or-drop, length-take-le, get_or-take}
 use Rattle.knots.specs.declared.tables.KnotTable.{KnotTable}
 use Rattle.knots.specs.Tables.{knots_of}
@@ -36,7 +36,10 @@ curve_there book c t at h =
     ap (λ (b : Bool). cond b (curve_by at (drop at book) (lines_from [] 0 (at + 9) (drop 9 (drop at book)))) (stopped (refused TooMany RecordLayer at))) (lt-ltb c 8 h)
     ∙ ap (λ (bs : List ℕ). curve_by at (drop at book) (lines_from [] 0 (at + 9) bs)) (sym (nine_further book at))
 
--- the body of a table that is whole, as the code has it; w bytes of operands
+-- what reading the body says, as the code has it; w bytes of operands
+abbrev pub BodyRead : List ℕ → ℕ → ℕ → ℕ → Result KnotTable Fault → Type 0
+BodyRead book at w t = let body = take (at + 1 + w - (at + 9)) (drop (at + 9) book) in TableRead t (body_reading body) (body_knots body)
+
 module _ (book : List ℕ) (at w : ℕ) (count : w ≡ 10 + 8 * get_or book (at + 10) 0) (whole : at + w < length book) where
   abbrev body : List ℕ
   body = take (at + 1 + w - (at + 9)) (drop (at + 9) book)
@@ -46,16 +49,6 @@ module _ (book : List ℕ) (at w : ℕ) (count : w ≡ 10 + 8 * get_or book (at 
 
   body_part : body ≡ table_body (drop at book)
   body_part = (λ i. take (body_size i) (nine_further book at i))
-
-  pub body_whole : 2 + 8 * get_or body 1 0 ≤ length body
-  body_whole =
-      let m = at + 1 + w - (at + 9) in
-      let l = length-drop (at + 9) book in
-      let e : length (take m (drop (at + 9) book)) ≡ m = length-take-le m (drop (at + 9) book) (omega arith) in
-      let h : 1 < m = omega arith in
-      let s : at + 9 + 1 ≡ at + 10 = omega arith in
-      let g : get_or (take m (drop (at + 9) book)) 1 0 ≡ get_or book (at + 10) 0 = get_or-take m (drop (at + 9) book) 1 0 h ∙ get_or-drop (at + 9) book 1 0 ∙ ap (λ (k : ℕ). get_or book k 0) s in
-      omega arith
 
   module _ (t : ℕ) where
     -- the fault, of the body that the rules have

@@ -46,7 +46,7 @@ module _ (book : List ℕ) (ls : List Line) (at : ℕ) (within : at < length boo
   at_command : (i : Inside) → inside (length ls) here ≡ i → lines_from ls 0 at here ≡ go_on (λ l w. lines_from (ls ++ (l ∷ [])) w (suc at) (drop (at + 1) book)) ls at i
   at_command i e = ap (lines_from ls 0 at) split ∙ ap (go_on (λ l w. lines_from (ls ++ (l ∷ [])) w (suc at) (drop (at + 1) book)) ls at) (ap (inside (length ls)) (sym split) ∙ e)
 
-  pub line_more : (l : Line) (w : ℕ) → inside (length ls) here ≡ a_line l w → w < length here → lines_from ls 0 at here ≡ lines_from (ls ++ (l ∷ [])) 0 (at + (1 + w)) (drop (at + (1 + w)) book)
+  line_more : (l : Line) (w : ℕ) → inside (length ls) here ≡ a_line l w → w < length here → lines_from ls 0 at here ≡ lines_from (ls ++ (l ∷ [])) 0 (at + (1 + w)) (drop (at + (1 + w)) book)
   line_more l w e h =
       let k : w ≤ length (drop (at + 1) book) = omega (arith, length-drop (at + 1) book, length-drop at book) in
       at_command (a_line l w) e ∙ pass_lines (ls ++ (l ∷ [])) w (suc at) (drop (at + 1) book) k
@@ -58,33 +58,11 @@ module _ (book : List ℕ) (ls : List Line) (at : ℕ) (within : at < length boo
       sum' : at + 1 + w ≡ at + (1 + w)
       sum' = omega arith
 
-  pub line_closes : inside (length ls) here ≡ closes → lines_from ls 0 at here ≡ Ok (ls, at)
-  line_closes e = at_command closes e
-
-  pub line_stops : (f : Fault) (y : Layer) → inside (length ls) here ≡ stops f y → lines_from ls 0 at here ≡ Err (refused f y at)
-  line_stops f y e = at_command (stops f y) e
-
-pub left_open : (book : List ℕ) (ls : List Line) (at : ℕ) → length book ≤ at → lines_from ls 0 at (drop at book) ≡ Err (refused CutShort RecordLayer at)
-left_open book ls at h = ap (lines_from ls 0 at) (drop_all at book h)
-
 -- as the code has it: the step is told of the rest of the slice
 abbrev pub StepSays : List ℕ → List Line → ℕ → Step → Type 0
 StepSays book ls at step = Stepped ls at (take (length book - at) (drop at book)) (Ok step)
 
-module _ (book : List ℕ) (ls : List Line) (at : ℕ) (within : at < length book) where
-  abbrev rest : List ℕ
-  rest = take (length book - at) (drop at book)
-
-  there : (step : Result Step Refusal) → Stepped ls at rest step → Stepped ls at (drop at book) step
-  there step = subst (λ (bs : List ℕ). Stepped ls at bs step) (rest_is book at)
-
-  pub told_line : (c : CodeList) (w : ℕ) → Stepped ls at rest (Ok (Longer c w)) → lines_from ls 0 at (drop at book) ≡ lines_from (lines_of c) 0 (at + (1 + w)) (drop (at + (1 + w)) book)
-  told_line c w t =
-      let s = there (Ok (Longer c w)) t in
-      line_more book ls at within s.0 w s.1.0 s.1.2 ∙ ap (λ (ms : List Line). lines_from ms 0 (at + (1 + w)) (drop (at + (1 + w)) book)) (sym s.1.1)
-
-  pub told_close : (c : CodeList) → Stepped ls at rest (Ok (Closed c)) → lines_from ls 0 at (drop at book) ≡ Ok (lines_of c, at)
-  told_close c t = let s = there (Ok (Closed c)) t in line_closes book ls at within s.0 ∙ ap (λ (ms : List Line). Ok (ms, at)) (sym s.1)
-
-  pub told_stop : (r : Refusal) → Stepped ls at rest (Err r) → lines_from ls 0 at (drop at book) ≡ Err r
-  told_stop r t = let s = there (Err r) t in line_stops book ls at within r.fault r.layer s.0 ∙ ap (λ (n : ℕ). Err (refused r.fault r.layer n)) (sym s.1)
+pub told_line : (book : List ℕ) (ls : List Line) (at : ℕ) → at < length book → (c : CodeList) (w : ℕ) → StepSays book ls at (Longer c w) → lines_from ls 0 at (drop at book) ≡ lines_from (lines_of c) 0 (at + (1 + w)) (drop (at + (1 + w)) book)
+told_line book ls at within c w t =
+    let s = subst (λ (bs : List ℕ). Stepped ls at bs (Ok (Longer c w))) (rest_is book at) t in
+    line_more book ls at within s.0 w s.1.0 s.1.2 ∙ ap (λ (ms : List Line). lines_from ms 0 (at + (1 + w)) (drop (at + (1 + w)) book)) (sym s.1.1)

@@ -120,13 +120,8 @@ impl Op {
         match (self, bytes) {
             (Op::Curve, [_, _, _, _, _, _, _, _, _, ..]) => Some(Command::Open),
             (Op::End, [_, ..]) => Some(Command::Close),
-            (Op::Table, [_, _, _, _, _, _, _, _, _, _, count, knots @ ..]) => {
-                if 8 * *count as usize <= knots.len() {
-                    Some(Command::Table)
-                } else {
-                    None
-                }
-            }
+            (Op::Table, [_, _, _, _, _, _, _, _, _, _, count, knots @ ..])
+                if 8 * *count as usize <= knots.len() => Some(Command::Table),
             _ => None,
         }
     }

@@ -52,6 +52,7 @@ pub(crate) fn read_table(body: &[u8], tables: usize) -> Result<KnotTable, Fault>
         return Err(Fault::Knots);
     };
     let (eights, _) = rest.as_chunks::<8>();
+    // as many as one byte counts
     let mut knots = Bounded::<Knot, 255>::new();
     for bytes in &eights[..*count as usize] {
         knots.push(knot_of(bytes)).map_err(|_| Fault::Knots)?;

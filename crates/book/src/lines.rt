@@ -45,16 +45,16 @@ fn next_line(bytes: &[u8], at: usize, list: Option<CodeList>) -> Result<Step, Re
 {
     let (command, width) = read_command(bytes, at)?;
     match command {
-        Command::Line(line) => match grown(list, line) {
-            Ok(list) => Ok(Step::Line(list, width)),
-            Err(fault) => Err(fault.at(Layer::Line, at)),
-        },
+        Command::Line(line) => {
+            let list = grown(list, line).map_err(|fault| fault.at(Layer::Line, at))?;
+            Ok(Step::Line(list, width))
+        }
         Command::Close => Ok(Step::Close(list.ok_or(Fault::Lines.at(Layer::Record, at))?)),
         Command::Open | Command::Table => Err(Fault::Misplaced.at(Layer::Record, at)),
     }
 }
 
-// The lines from that offset to END, as a list, and END's offset.
+// The lines from that offset to END, as a list, and END's offset. By offsets, since each command tells how far it is to the next.
 pub fn read_lines(book: &[u8], from: usize) -> Result<(CodeList, usize), Refusal>
     ensures { Read (lines_from [] 0 from (drop from book.now)) from (length book.now) result }
 {

@@ -89,11 +89,13 @@ impl<'a> Reader<'a> {
         requires whole { self.now.at + width < length self.now.book.now }
         ensures { found_of result ≡ table_found self.now.tables self.now.at (drop self.now.at self.now.book.now) }
     {
-        let end = self.at + 1 + width;
-        match read_table(&self.book[self.at + 9..end], self.tables) {
-            Ok(table) => Ok(self.record_to(end, Contents::Table(table))),
-            Err(fault) => Err(fault.at(Layer::Record, self.at)),
-        }
+        let at = self.at;
+        let end = at + 1 + width;
+        let table = read_table(&self.book[at + 9..end], self.tables).map_err(|fault| fault.at(
+            Layer::Record,
+            at,
+        ))?;
+        Ok(self.record_to(end, Contents::Table(table)))
     }
 
     // What stands at the reader's place, outside curves.

@@ -1,4 +1,4 @@
-// The declared types: a record of a book, and the reader that hands records out.
+// The declared types: a record of a book, also as it is read, and the reader that hands records out.
 use codelist::lists::CodeList;
 use knots::tables::KnotTable;
 
@@ -28,7 +28,7 @@ pub(crate) enum Contents {
     Table(KnotTable),
 }
 
-// A record as it was read, with its contents.
+// A record as it is read, with its contents, which are not read again.
 #[derive(Clone, Copy)]
 pub(crate) struct ReadRecord<'a> {
     pub(crate) tag: &'a [u8],

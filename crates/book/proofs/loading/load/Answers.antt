@@ -49,8 +49,12 @@ returns-in_err-map_err c =
           absurd (never_full knotting (items_of l.knots) (is_ok p.result) p.ensures.answer room (ap is_ok (sym w.kept-is) ∙ t))
     ]
 
-pub returns : goal.returns
-returns c =
+pub returns-clause-curves : goal.returns-clause-curves
+returns-clause-curves c =
     let l = c.loop-read in
-    let r = at_the_end c.args.book.now l.reader.book.now (place_of l.reader) c.args.lists.now l.curves c.args.tables.now l.knots l.invariant (ap (λ o. next_of (Ok o)) (sym c.in_default.is) ∙ c.in_ok-read.ensures.found) in
-    record { answer = r.answer; lists = r.lists; tables = r.tables; curves = r.curves; heights = r.heights }
+    (at_the_end c.args.book.now l.reader.book.now (place_of l.reader) l.curves l.knots l.invariant (ap (λ o. next_of (Ok o)) (sym c.in_default.is) ∙ c.in_ok-read.ensures.found)).0
+
+pub returns-clause-heights : goal.returns-clause-heights
+returns-clause-heights c =
+    let l = c.loop-read in
+    (at_the_end c.args.book.now l.reader.book.now (place_of l.reader) l.curves l.knots l.invariant (ap (λ o. next_of (Ok o)) (sym c.in_default.is) ∙ c.in_ok-read.ensures.found)).1

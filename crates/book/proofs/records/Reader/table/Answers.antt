@@ -1,17 +1,22 @@
-use Rattle.std.proofs.Common.{ap, ◌∙◌}
+use Rattle.std.proofs.Common.{ap, ◌∙◌, rules}
+use Rattle.std.proofs.lemmas.Result.{err_from_is_err_and}
+use Rattle.book.specs.declared.refusals.Layer.TheVariants.{Record as RecordLayer}
 use Rattle.book.specs.Records.{found, stopped}
-use Rattle.book.proofs.Parts.{body_whole, table_there, table_refused}
+use Rattle.book.proofs.Mapped.{mapped_ok, mapped_err}
+use Rattle.book.proofs.Parts.{BodyRead, table_there, table_refused}
 use Rattle.book.proofs.records.Reader.table.Goals as goal
 
-pub read_table-requires : goal.read_table-requires
-read_table-requires c = let s = c.args.self.now in body_whole s.book.now s.at c.args.width c.requires.count c.requires.whole
-
-pub returns-in-Ok : goal.returns-in-Ok
-returns-in-Ok c =
+pub returns-in_err-table : goal.returns-in_err-table
+returns-in_err-table c =
     let s = c.args.self.now in
-    ap (λ e. found e) c.record_to.ensures ∙ table_there s.book.now s.at c.args.width c.requires.count c.requires.whole s.tables c.in-Ok.table c.in-Ok.ensures
+    let w = c.args.width in
+    let x = mapped_err (BodyRead s.book.now s.at w s.tables) RecordLayer s.at c.read_table.result c.in_err-table.field-0.0 c.read_table.ensures (search rules) in
+    let p = err_from_is_err_and c.from_residual.result c.from_residual.ensures.1 in
+    rw (p.1, p.2) (ap (λ r. stopped r) x.2 ∙ table_refused s.book.now s.at w c.requires.count c.requires.whole s.tables x.0 x.1)
 
-pub returns-in-Err : goal.returns-in-Err
-returns-in-Err c =
+pub returns : goal.returns
+returns c =
     let s = c.args.self.now in
-    ap (λ r. stopped r) c.at.ensures ∙ table_refused s.book.now s.at c.args.width c.requires.count c.requires.whole s.tables c.in-Err.fault c.in-Err.ensures
+    let w = c.args.width in
+    let x = mapped_ok (BodyRead s.book.now s.at w s.tables) RecordLayer s.at c.read_table.result c.in_ok-table.table c.read_table.ensures c.in_ok-table.ensures.cases in
+    ap (λ e. found e) c.record_to.ensures ∙ table_there s.book.now s.at w c.requires.count c.requires.whole s.tables c.in_ok-table.table x
