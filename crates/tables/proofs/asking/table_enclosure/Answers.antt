@@ -17,8 +17,9 @@ is_sub e (Some r) = refl
 pub returns : goal.returns
 returns c =
     let e = c.extent-extent.result in
+    let n = c.args.table.now.reading in
     let f : SFits w32 e.lo = search rules in
     let g : SFits w32 e.hi = search rules in
     let r = c.reading_pair.ensures ∙ ap reading_pair (c.reading_at.ensures ∙ ap (reading_at c.args.row.now) c.reading.ensures) in
-    c.sub.ensures.same ∙ (λ i. sub (Bounds (to_z-of_z w32 e.lo f i) (to_z-of_z w32 e.hi g i)) (r i)) ∙ is_sub e (reading_at c.args.row.now c.args.table.now.reading)
-    ∙ ap (λ (x : Extent). less_reading x (reading_at c.args.row.now c.args.table.now.reading)) c.extent-extent.ensures.rule
+    let less : c.sub.result ≡ sub (Bounds e.lo e.hi) c.reading_pair.result = simp to_z-of_z at c.sub.ensures.same in
+    less ∙ (λ i. sub (Bounds e.lo e.hi) (r i)) ∙ is_sub e (reading_at c.args.row.now n) ∙ (λ i. less_reading (c.extent-extent.ensures.rule i) (reading_at c.args.row.now n))
