@@ -1,9 +1,8 @@
 -- What a record that is found has, and where a refusal lies.
-use Rattle.std.proofs.Common.{◌≡◌, ℕ, zero, suc, ◌+◌, ◌-◌, ◌*◌, ◌<◌, ◌≤◌, Bool, true, false, cond, ltb, leb, List, [], ◌∷◌, ◌++◌, length, get_or, take, drop, Some, None, Ok, Err, Option, Result, refl, ap, ◌∙◌, arith, ltb-true}
-use Rattle.std.proofs.lemmas.List.{length-drop, length-take-le, get_or-drop, get_or-take}
+use Rattle.std.proofs.Common.{◌≡◌, ℕ, zero, suc, ◌+◌, ◌-◌, ◌*◌, ◌<◌, ◌≤◌, Bool, true, false, cond, ltb, leb, List, [], ◌∷◌, ◌++◌, length, get_or, take, drop, Some, None, Ok, Err, Option, Result, refl, arith, ltb-true}
+use Rattle.std.proofs.lemmas.List.{length-drop, length-take-le}
 use Rattle.codelist.specs.declared.lines.Line.{Line as CodeLine}
-use Rattle.knots.specs.declared.knots.TableRefusal.TheVariants.{Reading as BadReading, Range as BadRange, Knots as BadKnots}
-use Rattle.knots.specs.Knots.{all_ranged, lined, fault}
+use Rattle.knots.specs.Knots.{all_ranged, lined}
 use Rattle.book.specs.declared.ops.Op.{Op}
 use Rattle.book.specs.declared.ops.Op.TheVariants.{X, C, R, Neg, Abs, Add, Sub, Mul, Div, Max, Chi, Curve, End, Table}
 use Rattle.book.specs.declared.refusals.Fault.{Fault}
@@ -35,61 +34,42 @@ lines_say ls zero at (b ∷ bs) = by (inside (length ls) (b ∷ bs)) (λ l w. li
     by (stops f y) next = (omega arith, omega arith)
 
 -- ---- records
--- room for it, and what its body says
-abbrev pub Meant : ℕ → ℕ → ℕ → List ℕ → List ℕ → Said → Type 0
-Meant c t at bs body (a_curve ls) = (c < 8) × (lines_from [] 0 (at + 9) (drop 9 bs) ≡ Ok (ls, at + 9 + length body))
-Meant c t at bs body (a_table n ks) = (t < 8) × (n ≡ body_reading body) × (ks ≡ body_knots body) × (fault n ks ≡ None) × (2 + 8 * get_or body 1 0 ≤ length body)
+-- room for a record
+abbrev pub Room : ℕ → ℕ → Said → Type 0
+Room c t (a_curve ls) = c < 8
+Room c t (a_table n ks) = t < 8
 
-pub record EntrySays (c t at : ℕ) (bs : List ℕ) (e : Entry) : Type 0 where
-  pub place : e.offset ≡ at
+pub record EntrySays (c t : ℕ) (bs : List ℕ) (e : Entry) : Type 0 where
   pub size : size_of e ≤ length bs
-  pub meant : Meant c t at bs e.body e.said
+  pub room : Room c t e.said
 
 abbrev pub FoundSays : ℕ → ℕ → ℕ → List ℕ → Found → Type 0
-FoundSays c t at bs (found e) = EntrySays c t at bs e
+FoundSays c t at bs (found e) = EntrySays c t bs e
 FoundSays c t at bs (stopped r) = (at ≤ r.offset) × (r.offset ≤ at + length bs)
 
 here : (c t at : ℕ) (bs : List ℕ) (f : Fault) (y : Layer) → FoundSays c t at bs (stopped (refused f y at))
 here c t at bs f y = (omega arith, omega arith)
 
-curve_says : (c t at : ℕ) (bs : List ℕ) → c < 8 → 8 < length bs → (r : Result (List CodeLine × ℕ) Refusal) → lines_from [] 0 (at + 9) (drop 9 bs) ≡ r → LinesSay (at + 9) (length (drop 9 bs)) r → FoundSays c t at bs (curve_by at bs r)
-curve_says c t at bs room h (Ok p) e s =
+curve_says : (c t at : ℕ) (bs : List ℕ) → c < 8 → 8 < length bs → (r : Result (List CodeLine × ℕ) Refusal) → LinesSay (at + 9) (length (drop 9 bs)) r → FoundSays c t at bs (curve_by at bs r)
+curve_says c t at bs room h (Ok p) s =
     let l = length-drop 9 bs in
     let n = p.1 - (at + 9) in
     let k : length (take n (drop 9 bs)) ≡ n = length-take-le n (drop 9 bs) (omega (arith, s.1)) in
-    let m : p.1 ≡ at + 9 + length (take n (drop 9 bs)) = omega (arith, s.0) in
-    record {
-      place = refl;
-      size = omega (arith, s.0, s.1);
-      meant = (room, e ∙ ap (λ (i : ℕ). Ok (p.0, i)) m);
-    }
-curve_says c t at bs room h (Err r) e s = let l = length-drop 9 bs in (omega (arith, s.0), omega (arith, s.1))
-
--- a body that is whole
-module _ (bs : List ℕ) (h : 10 + 8 * get_or bs 10 0 < length bs) where
-  body_length : length (table_body bs) ≡ 2 + 8 * get_or bs 10 0
-  body_length = let l = length-drop 9 bs in length-take-le (2 + 8 * get_or bs 10 0) (drop 9 bs) (omega arith)
-
-  body_count : get_or (table_body bs) 1 0 ≡ get_or bs 10 0
-  body_count = get_or-take (2 + 8 * get_or bs 10 0) (drop 9 bs) 1 0 (omega arith) ∙ get_or-drop 9 bs 1 0
+    record { size = omega (arith, s.0, s.1); room = room }
+curve_says c t at bs room h (Err r) s = let l = length-drop 9 bs in (omega (arith, s.0), omega (arith, s.1))
 
 table_says : (c t at : ℕ) (bs : List ℕ) → 10 + 8 * get_or bs 10 0 < length bs → FoundSays c t at bs (table_found t at bs)
-table_says c t at bs h = by (leb (body_reading (table_body bs)) 7) (all_ranged (body_knots (table_body bs))) (ltb t 8) (lined (body_knots (table_body bs))) refl refl refl refl
+table_says c t at bs h = by (leb (body_reading (table_body bs)) 7) (all_ranged (body_knots (table_body bs))) (ltb t 8) (lined (body_knots (table_body bs))) refl
   where
-    by : (a b d l : Bool) → leb (body_reading (table_body bs)) 7 ≡ a → all_ranged (body_knots (table_body bs)) ≡ b → ltb t 8 ≡ d → lined (body_knots (table_body bs)) ≡ l
-        → FoundSays c t at bs (table_by at (tag_of bs) (table_body bs) (cond a (cond b (cond d (cond l None (Some Knots)) (Some TooMany)) (Some Range)) (Some Operand)))
-    by true true true true p q r s =
-        let e = body_length bs h in
-        let k = body_count bs h in
-        record {
-          place = refl;
-          size = omega arith;
-          meant = (ltb-true t 8 r, refl, refl, (λ i. cond (p i) (cond (q i) (cond (s i) None (Some BadKnots)) (Some BadRange)) (Some BadReading)), omega arith);
-        }
-    by true true true false p q r s = here c t at bs Knots RecordLayer
-    by true true false l p q r s = here c t at bs TooMany RecordLayer
-    by true false d l p q r s = here c t at bs Range RecordLayer
-    by false b d l p q r s = here c t at bs Operand RecordLayer
+    by : (a b d l : Bool) → ltb t 8 ≡ d → FoundSays c t at bs (table_by at (tag_of bs) (table_body bs) (cond a (cond b (cond d (cond l None (Some Knots)) (Some TooMany)) (Some Range)) (Some Operand)))
+    by true true true true r =
+        let l = length-drop 9 bs in
+        let k : length (table_body bs) ≡ 2 + 8 * get_or bs 10 0 = length-take-le (2 + 8 * get_or bs 10 0) (drop 9 bs) (omega arith) in
+        record { size = omega arith; room = ltb-true t 8 r }
+    by true true true false r = here c t at bs Knots RecordLayer
+    by true true false l r = here c t at bs TooMany RecordLayer
+    by true false d l r = here c t at bs Range RecordLayer
+    by false b d l r = here c t at bs Operand RecordLayer
 
 whole_says : (c t at : ℕ) (bs : List ℕ) (op : Op) → operand_bytes op bs < length bs → FoundSays c t at bs (outside_by c t at bs (command_of op bs))
 whole_says c t at bs X h = here c t at bs Misplaced (layer_of X)
@@ -108,7 +88,7 @@ whole_says c t at bs Table h = table_says c t at bs h
 whole_says c t at bs Curve h = by (ltb c 8) refl
   where
     by : (b : Bool) → ltb c 8 ≡ b → FoundSays c t at bs (cond b (curve_by at bs (lines_from [] 0 (at + 9) (drop 9 bs))) (stopped (refused TooMany RecordLayer at)))
-    by true e = curve_says c t at bs (ltb-true c 8 e) h (lines_from [] 0 (at + 9) (drop 9 bs)) refl (lines_say [] 0 (at + 9) (drop 9 bs))
+    by true e = curve_says c t at bs (ltb-true c 8 e) h (lines_from [] 0 (at + 9) (drop 9 bs)) (lines_say [] 0 (at + 9) (drop 9 bs))
     by false e = here c t at bs TooMany RecordLayer
 
 pub record_says : (c t at : ℕ) (bs : List ℕ) → FoundSays c t at bs (record_at c t at bs)

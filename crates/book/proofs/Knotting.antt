@@ -1,25 +1,35 @@
 -- The knots of a table's body, one after the other.
-use Rattle.std.proofs.Common.{◌≡◌, ℕ, zero, suc, ◌+◌, ◌-◌, ◌*◌, ◌<◌, ◌≤◌, List, [], ◌∷◌, ◌++◌, length, take, drop, set, sym, refl, ap, ◌∙◌, arith}
-use Rattle.std.proofs.lemmas.List.{drop-drop, take_more_set}
-use Rattle.knots.specs.declared.knots.Knot.{Knot}
-use Rattle.book.specs.Records.{knot_of, knots_at}
+use Rattle.std.proofs.Common.{◌≡◌, ℕ, zero, suc, ◌+◌, ◌-◌, ◌*◌, ◌/◌, ◌<◌, ◌≤◌, List, ◌∷◌, map, length, get_or, take, drop, to_z, refl, ap, ◌∙◌, arith}
+use Rattle.std.proofs.lemmas.List.{take_all, length-drop, get_or-take}
+use Rattle.std.specs.Int.{w32}
+use Rattle.std.specs.Simd.{first_chunks}
+use Rattle.book.specs.Ops.{signed_at}
+use Rattle.book.specs.Records.{knot_of, knots_at, body_knots}
 use Rattle.book.proofs.Passing.{rest_is}
 
-pub knots_more : (n : ℕ) (bs : List ℕ) → knots_at (n + 1) bs ≡ knots_at n bs ++ (knot_of (drop (8 * n) bs) ∷ [])
-knots_more zero bs = refl
-knots_more (suc n) bs =
-    let s : suc n + 1 ≡ suc (n + 1) = omega arith in
-    let t : 8 + 8 * n ≡ 8 * suc n = omega arith in
-    ap (λ (m : ℕ). knots_at m bs) s ∙ ap (λ (ks : List Knot). knot_of bs ∷ ks) (knots_more n (drop 8 bs))
-    ∙ ap (λ (cs : List ℕ). knot_of bs ∷ (knots_at n (drop 8 bs) ++ (knot_of cs ∷ []))) (drop-drop (8 * n) 8 bs ∙ ap (λ (m : ℕ). drop m bs) t)
+signed_take : (bs : List ℕ) (i : ℕ) → i + 3 < 8 → signed_at (take 8 bs) i ≡ signed_at bs i
+signed_take bs i h =
+    let a = get_or-take 8 bs i 0 (omega arith) in
+    let b = get_or-take 8 bs (i + 1) 0 (omega arith) in
+    let c = get_or-take 8 bs (i + 2) 0 (omega arith) in
+    let d = get_or-take 8 bs (i + 3) 0 (omega arith) in
+    (λ j. to_z w32 (a j * 16777216 + b j * 65536 + c j * 256 + d j))
 
-pub knots_copied : (places : List Knot) (n : ℕ) (bs : List ℕ) (k : Knot) → n < length places → take n places ≡ knots_at n bs → k ≡ knot_of (take (length bs - 8 * n) (drop (8 * n) bs)) → take (n + 1) (set places n k) ≡ knots_at (n + 1) bs
-knots_copied places n bs k h e f =
-    take_more_set places n k h ∙ (λ i. e i ++ ((f ∙ ap knot_of (rest_is bs (8 * n))) i ∷ [])) ∙ sym (knots_more n bs)
+knot_take : (bs : List ℕ) → knot_of (take 8 bs) ≡ knot_of bs
+knot_take bs = let x = signed_take bs 0 (omega arith) in let y = signed_take bs 4 (omega arith) in (λ j. record { x = x j; y = y j })
 
--- all of them, as the code has the slice
-pub knots_all : (places : List Knot) (n count : ℕ) (bs : List ℕ) → n ≤ count → count ≤ n → take n places ≡ knots_at n bs → take (count - 0) places ≡ knots_at count bs
-knots_all places n count bs h k e =
-    let a : count - 0 ≡ n = omega arith in
-    let b : n ≡ count = omega arith in
-    ap (λ (m : ℕ). take m places) a ∙ e ∙ ap (λ (m : ℕ). knots_at m bs) b
+-- the first n of more chunks
+pub knots_of_chunks : (n m : ℕ) (bs : List ℕ) → n ≤ m → map knot_of (take n (first_chunks 8 m bs)) ≡ knots_at n bs
+knots_of_chunks zero m bs h = refl
+knots_of_chunks (suc n) zero bs h = absurd (omega arith)
+knots_of_chunks (suc n) (suc m) bs h = let k = knot_take bs in let ks = knots_of_chunks n m (drop 8 bs) (omega arith) in (λ j. k j ∷ ks j)
+
+-- as the code has them: all the chunks that it took
+pub knots_read : (body : List ℕ) (i : ℕ) (chunks : List (List ℕ)) → 2 + 8 * get_or body 1 0 ≤ length body → chunks ≡ first_chunks 8 (length (take (length body - 2) (drop 2 body)) / 8) (take (length body - 2) (drop 2 body))
+    → length (take (get_or body 1 0) chunks) ≤ i → map knot_of (take i (take (get_or body 1 0) chunks)) ≡ body_knots body
+knots_read body i chunks h e k =
+    let n = get_or body 1 0 in
+    let rest = take (length body - 2) (drop 2 body) in
+    let r : rest ≡ drop 2 body = rest_is body 2 in
+    let l : length rest ≡ length body - 2 = ap (λ (xs : List ℕ). length xs) r ∙ length-drop 2 body in
+    ap (map knot_of) (take_all i (take n chunks) k ∙ ap (take n) e) ∙ knots_of_chunks n (length rest / 8) rest (omega arith) ∙ ap (knots_at n) r

@@ -1,9 +1,9 @@
+pub mod Mapped
 pub mod Passing
+pub mod CommandRead
 pub mod Knotting
 pub mod Parts
 pub mod Found
-pub mod Nexts
-pub mod Filling
 pub mod Walking
 pub mod Gathering
 pub mod Loaded

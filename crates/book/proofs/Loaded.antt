@@ -1,184 +1,102 @@
 -- What each turn of a load does to what is gathered, and what holds at its end.
-use Rattle.std.proofs.Common.{◌≡◌, ℕ, ◌+◌, ◌*◌, ◌<◌, ◌≤◌, List, [], ◌∷◌, ◌++◌, map, length, get_or, drop, Some, None, Ok, Err, Option, Result, sym, refl, ap, ◌∙◌, subst, append-nil, arith, length-append}
-use Rattle.std.proofs.Math.ListN.{get_or-map}
+use Rattle.std.proofs.Common.{◌≡◌, ℕ, ◌<◌, Bool, true, false, cond, ltb, List, [], ◌∷◌, ◌++◌, map, length, slice_get, Some, None, Ok, Err, Option, Result, sym, refl, ap, ◌∙◌, subst, append-nil, arith, lt-ltb, length-append}
+use Rattle.std.proofs.lemmas.Bool.{true≢false}
+use Rattle.std.proofs.lemmas.List.{length-map, map-append}
+use Rattle.std.proofs.lemmas.Option.{slice_get-map}
 use Rattle.std.specs.Option.{option_map}
 use Rattle.exact.specs.Fraction.{Fraction}
+use Rattle.bounded.specs.declared.lists.Bounded.{Bounded}
+use Rattle.bounded.specs.Lists.{items_of, item_at}
 use Rattle.family.specs.Readings.{Temperatures}
+use Rattle.family.specs.Items.{value_by}
 use Rattle.codelist.specs.declared.lines.Line.{Line}
 use Rattle.codelist.specs.declared.lists.CodeList.{CodeList}
-use Rattle.codelist.specs.declared.tables.ListTable.{ListTable}
 use Rattle.codelist.specs.Lists.{lines_of}
-use Rattle.codelist.specs.Plain as plain
-use Rattle.codelist.specs.Tables.{lists_of}
-use Rattle.bounded.specs.declared.lists.Bounded.{Bounded}
-use Rattle.bounded.specs.Lists.{items_of}
-use Rattle.family.specs.Items as items
+use Rattle.codelist.specs.Plain.{list_value}
 use Rattle.knots.specs.declared.knots.Knot.{Knot}
-use Rattle.knots.specs.Knots.{fault}
 use Rattle.knots.specs.declared.tables.KnotTable.{KnotTable}
 use Rattle.tables.specs.Family.{height_less}
 use Rattle.book.specs.declared.refusals.Refusal.{Refusal}
-use Rattle.book.specs.Lines.{lines_from}
-use Rattle.book.specs.Records.{Said, a_curve, a_table, Entry, Found, found, stopped, body_reading, body_knots}
+use Rattle.book.specs.Records.{Said, a_curve, a_table, Entry, Found, found}
 use Rattle.book.specs.Books.{curves_after, tables_after, read_book}
-use Rattle.book.specs.Told.{curve_told, table_told, refusal_told, entry_by, Place, found_at, place_after, rule_told}
-use Rattle.book.specs.Loading.{IsRead, lines_read, curve_of, table_of, curves_in, tables_in, listing, tabling, knotting, load_answer, ListsAfter, TablesAfter, ListsMean, TablesMean, curve_value, knots_value}
+use Rattle.book.specs.Told.{Place, found_at, place_after}
+use Rattle.book.specs.Loading.{curve_of, table_of, curves_in, tables_in, listing, tabling, knotting, ListsMean, TablesMean, curve_value, knots_value}
+use Rattle.book.proofs.Found.{Room}
 use Rattle.book.proofs.Walking.{records_at, on_found, records_at_lem}
-use Rattle.book.proofs.Gathering.{Lot, gathered, gather_step, Loading, OnCurve, OnTable, on_curve, on_table}
+use Rattle.book.proofs.Gathering.{Lot, gathered, gather_step, Loading, Says, says}
 
 -- ---- the end of the book
--- what an accepted book leaves, gathered in lists and tables
-pub record Done (r : Result (List Entry) Refusal) (old new : ListTable) (old_tables new_tables : Bounded KnotTable 8) : Type 0 where
-  pub answer : Ok tt ≡ load_answer r
-  pub lists : ListsAfter r old new
-  pub tables : TablesAfter r old_tables new_tables
-  pub curves : ListsMean r new
-  pub heights : TablesMean r new_tables
-
-list_means : (o : Option CodeList) (t : Temperatures) (x : Fraction) → plain.value_by o t x ≡ curve_value (option_map lines_of o) t x
+list_means : (o : Option CodeList) (t : Temperatures) (x : Fraction) → value_by list_value o t x ≡ curve_value (option_map lines_of o) t x
 list_means None t x = refl
 list_means (Some l) t x = refl
 
-table_means : (o : Option KnotTable) (t : Temperatures) (x : Fraction) → items.value_by height_less o t x ≡ knots_value (option_map knotting o) t x
+table_means : (o : Option KnotTable) (t : Temperatures) (x : Fraction) → value_by height_less o t x ≡ knots_value (option_map knotting o) t x
 table_means None t x = refl
 table_means (Some k) t x = refl
 
-lists_mean : (lists : ListTable) (ls : List (List Line)) → listing lists ≡ map Some ls → (k : ℕ) (t : Temperatures) (x : Fraction)
-    → plain.plain_value (record { table = lists }) k t x ≡ curve_value (get_or (map Some ls) k None) t x
-lists_mean lists ls e k t x =
-    list_means (get_or (lists_of lists) k None) t x
-    ∙ ap (λ o. curve_value o t x) (sym (get_or-map (option_map lines_of) (lists_of lists) k None) ∙ ap (λ os. get_or os k None) e)
-
-tables_mean : (tables : Bounded KnotTable 8) (ks : List (ℕ × List Knot)) → tabling tables ≡ map Some ks → (k : ℕ) (t : Temperatures) (x : Fraction)
-    → items.value_by height_less (get_or (items_of tables) k None) t x ≡ knots_value (get_or (map Some ks) k None) t x
-tables_mean tables ks e k t x =
-    table_means (get_or (items_of tables) k None) t x
-    ∙ ap (λ o. knots_value o t x) (sym (get_or-map (option_map knotting) (items_of tables) k None) ∙ ap (λ os. get_or os k None) e)
-
-abbrev lists_in : Result Lot Refusal → List (Option (List Line))
+abbrev lists_in : Result Lot Refusal → List (List Line)
 lists_in (Ok l) = l.0
 lists_in (Err r) = []
 
-abbrev tables_gathered : Result Lot Refusal → List (Option (ℕ × List Knot))
+abbrev tables_gathered : Result Lot Refusal → List (ℕ × List Knot)
 tables_gathered (Ok l) = l.1
 tables_gathered (Err r) = []
 
-finished : (r : Result (List Entry) Refusal) (old lists : ListTable) (old_tables tables : Bounded KnotTable 8)
-    → gathered (listing lists) (tabling tables) (Ok []) ≡ gathered [] [] r → Done r old lists old_tables tables
-finished (Err r) old lists old_tables tables e = let z : ◌≡◌ {A = ℕ} 0 1 = cc in absurd (omega arith)
-finished (Ok es) old lists old_tables tables e =
-    let p = append-nil (listing lists) in
-    let q = append-nil (tabling tables) in
-    let f : listing lists ≡ map Some (curves_in es) = sym p ∙ ap lists_in e in
-    let g : tabling tables ≡ map Some (tables_in es) = sym q ∙ ap tables_gathered e in
-    record {
-      answer = refl;
-      lists = f;
-      tables = g;
-      curves = lists_mean lists (curves_in es) f;
-      heights = tables_mean tables (tables_in es) g;
-    }
+-- the families mean what was gathered
+finished : (r : Result (List Entry) Refusal) (lists : Bounded CodeList 8) (tables : Bounded KnotTable 8) → gathered (listing lists) (tabling tables) (Ok []) ≡ gathered [] [] r → ListsMean r lists × TablesMean r tables
+finished (Err r) lists tables e = absurd cc
+finished (Ok es) lists tables e =
+    let f : listing lists ≡ curves_in es = sym (append-nil (listing lists)) ∙ ap lists_in e in
+    let g : tabling tables ≡ tables_in es = sym (append-nil (tabling tables)) ∙ ap tables_gathered e in (
+      λ way k t x. list_means (item_at lists k) t x ∙ ap (λ o. curve_value o t x) (sym (slice_get-map lines_of (items_of lists) k) ∙ ap (λ ls. slice_get ls k) f),
+      λ way k t x. table_means (item_at tables k) t x ∙ ap (λ o. knots_value o t x) (sym (slice_get-map knotting (items_of tables) k) ∙ ap (λ ks. slice_get ks k) g),
+    )
 
--- what a refused book leaves
-pub record Refused (r : Result (List Entry) Refusal) (f : Refusal) (old : ListTable) (old_tables : Bounded KnotTable 8) : Type 0 where
-  pub answer : Err f ≡ load_answer r
-  pub lists : ListsAfter r old old
-  pub tables : TablesAfter r old_tables old_tables
-  pub curves : ListsMean r old
-  pub heights : TablesMean r old_tables
+-- ---- by what the reader found
+more_curves : (cs : List (List Line)) (n : ℕ) (k : Said) → length cs ≡ n → length (cs ++ curve_of k) ≡ curves_after k n
+more_curves cs n (a_curve ls) e = length-append cs (ls ∷ []) ∙ omega (arith, e)
+more_curves cs n (a_table m ks) e = ap length (append-nil cs) ∙ e
 
-refused_by : (r : Result (List Entry) Refusal) (f : Refusal) (cs : List (Option (List Line))) (ts : List (Option (ℕ × List Knot))) (lists : ListTable) (tables : Bounded KnotTable 8)
-    → gathered cs ts (Err f) ≡ gathered [] [] r → Refused r f lists tables
-refused_by (Ok es) f cs ts lists tables e = let z : ◌≡◌ {A = ℕ} 0 1 = cc in absurd (omega arith)
-refused_by (Err r) f cs ts lists tables e = record { answer = cc; lists = refl; tables = refl; curves = tt; heights = tt }
+more_tables : (ts : List (ℕ × List Knot)) (n : ℕ) (k : Said) → length ts ≡ n → length (ts ++ table_of k) ≡ tables_after k n
+more_tables ts n (a_curve ls) e = ap length (append-nil ts) ∙ e
+more_tables ts n (a_table m ks) e = length-append ts ((m, ks) ∷ []) ∙ omega (arith, e)
 
--- ---- by what the reader told
-none_found : (o : Option Found) → None ≡ rule_told o → o ≡ None
-none_found None e = refl
-none_found (Some f) e = let z : ◌≡◌ {A = ℕ} 0 1 = cc in absurd (omega arith)
-
-not_an_entry : (k : Said) (n : ℕ) (tag body : List ℕ) (f : Refusal) → refusal_told f ≡ entry_by k n tag body → ⊥
-not_an_entry (a_curve ls) n tag body f e = cc
-not_an_entry (a_table m ks) n tag body f e = cc
-
-stopped_found : (o : Option Found) (f : Refusal) → Some (refusal_told f) ≡ rule_told o → o ≡ Some (stopped f)
-stopped_found None f e = let z : ◌≡◌ {A = ℕ} 0 1 = cc in absurd (omega arith)
-stopped_found (Some (stopped r)) f e = cc
-stopped_found (Some (found x)) f e = absurd (not_an_entry x.said x.offset x.tag x.body f cc)
-
-module _ (book held : List ℕ) (p : Place) where
+module _ (book held : List ℕ) (p : Place) (cs : List (List Line)) (ts : List (ℕ × List Knot)) (l : Loading book held p cs ts) where
   -- what is gathered so far, by what is found next
-  by_found : (cs : List (Option (List Line))) (ts : List (Option (ℕ × List Knot))) → Loading book held p cs ts → (o : Option Found) → found_at held p ≡ o → gathered cs ts (on_found book p o) ≡ gathered [] [] (read_book book)
-  by_found cs ts l o e = ap (gathered cs ts) (ap (on_found book p) (sym e ∙ ap (λ bs. found_at bs p) l.same) ∙ sym (records_at_lem book p)) ∙ l.rule
+  by_found : (o : Option Found) → o ≡ found_at held p → gathered cs ts (on_found book p o) ≡ gathered [] [] (read_book book)
+  by_found o e = ap (gathered cs ts) (ap (on_found book p) (e ∙ ap (λ bs. found_at bs p) l.same) ∙ sym (records_at_lem book p)) ∙ l.rule
 
-  pub at_the_end : (old lists : ListTable) (old_tables tables : Bounded KnotTable 8) → Loading book held p (listing lists) (tabling tables) → None ≡ rule_told (found_at held p) → Done (read_book book) old lists old_tables tables
-  at_the_end old lists old_tables tables l e = finished (read_book book) old lists old_tables tables (by_found (listing lists) (tabling tables) l None (none_found (found_at held p) e))
+  -- what holds where a record was found: room for it, and what is kept with one curve or one table more
+  module _ (e : Entry) (is : Some (found e) ≡ found_at held p) where
+    room : Room p.curves p.tables e.said
+    room = (subst (Says held p) (sym is) (says held p)).1.room
 
-  pub at_a_refusal : (f : Refusal) (cs : List (Option (List Line))) (ts : List (Option (ℕ × List Knot))) (lists : ListTable) (tables : Bounded KnotTable 8) → Loading book held p cs ts → Some (refusal_told f) ≡ rule_told (found_at held p) → Refused (read_book book) f lists tables
-  at_a_refusal f cs ts lists tables l e = refused_by (read_book book) f cs ts lists tables (by_found cs ts l (Some (stopped f)) (stopped_found (found_at held p) f e))
+    entry_more : gathered (cs ++ curve_of e.said) (ts ++ table_of e.said) (records_at book (place_after p (Some (found e)))) ≡ gathered [] [] (read_book book)
+    entry_more = sym (gather_step cs ts e (records_at book (place_after p (Some (found e))))) ∙ by_found (Some (found e)) is
 
-  -- ---- a record more
-  module _ (cs : List (Option (List Line))) (ts : List (Option (ℕ × List Knot))) (l : Loading book held p cs ts) where
-    entry_more : (e : Entry) → found_at held p ≡ Some (found e) → gathered (cs ++ map Some (curve_of e.said)) (ts ++ map Some (table_of e.said)) (records_at book (place_after p (Some (found e)))) ≡ gathered [] [] (read_book book)
-    entry_more e is = sym (gather_step cs ts e (records_at book (place_after p (Some (found e))))) ∙ by_found cs ts l (Some (found e)) is
+    pub curve_room : (ls : List Line) → e.said ≡ a_curve ls → length cs < 8
+    curve_room ls s = let h : p.curves < 8 = subst (Room p.curves p.tables) s room in omega (arith, l.curves)
 
-    -- what holds where a curve was told
-    pub record ACurve (offset : ℕ) : Type 0 where
-      pub read : IsRead (lines_from [] 0 (offset + 9) (drop (offset + 9) book))
-      pub room : length cs < 8
-      pub small : offset ≤ 8192
-      pub next : (q : Place) (more : List ℕ) (new : List (Option (List Line))) → q ≡ place_after p (found_at held p) → more ≡ held
-          → new ≡ cs ++ (Some (lines_read (lines_from [] 0 (offset + 9) (drop (offset + 9) book))) ∷ []) → Loading book more q new ts
+    pub table_room : (n : ℕ) (ks : List Knot) → e.said ≡ a_table n ks → length ts < 8
+    table_room n ks s = let h : p.tables < 8 = subst (Room p.curves p.tables) s room in omega (arith, l.tables)
 
-    curve_more : (offset : ℕ) → OnCurve held p (found_at held p) offset → ACurve offset
-    curve_more offset o =
-        let e = o.entry in
-        let read : lines_from [] 0 (offset + 9) (drop (offset + 9) book) ≡ Ok (o.lines, o.end) = ap (λ bs. lines_from [] 0 (offset + 9) (drop (offset + 9) bs)) (sym l.same) ∙ o.read in
+    -- one curve or one table more
+    pub more_kept : (q : Place) (held' : List ℕ) (cs' : List (List Line)) (ts' : List (ℕ × List Knot)) → q ≡ place_after p (found_at held p) → held' ≡ held → cs' ≡ cs ++ curve_of e.said → ts' ≡ ts ++ table_of e.said → Loading book held' q cs' ts'
+    more_kept q held' cs' ts' b m f g =
+        let here : q ≡ place_after p (Some (found e)) = b ∙ ap (place_after p) (sym is) in
         record {
-          read = subst IsRead (sym read) tt;
-          room = omega (arith, l.curves, o.room);
-          small = omega (arith, o.place, o.size, o.short);
-          next = λ q more new b m n.
-              let here : q ≡ place_after p (Some (found e)) = b ∙ ap (place_after p) o.is in
-              let added : new ≡ cs ++ map Some (curve_of e.said) = n ∙ ap (λ xs. cs ++ (Some xs ∷ [])) (ap lines_read read) ∙ ap (λ k. cs ++ map Some (curve_of k)) (sym o.said) in
-              let kept : ts ≡ ts ++ map Some (table_of e.said) = sym (append-nil ts) ∙ ap (λ k. ts ++ map Some (table_of k)) (sym o.said) in
-              record {
-                same = m ∙ l.same;
-                rule = (λ i. gathered (added i) (kept i) (records_at book (here i))) ∙ entry_more e o.is;
-                curves = ap length n ∙ length-append cs _ ∙ omega (arith, l.curves) ∙ sym (ap (λ (x : Place). x.curves) here ∙ ap (λ k. curves_after k p.curves) o.said);
-                tables = l.tables ∙ sym (ap (λ (x : Place). x.tables) here ∙ ap (λ k. tables_after k p.tables) o.said);
-              };
+          same = m ∙ l.same;
+          rule = (λ i. gathered (f i) (g i) (records_at book (here i))) ∙ entry_more;
+          curves = ap length f ∙ more_curves cs p.curves e.said l.curves ∙ ap (λ (x : Place). x.curves) (sym here);
+          tables = ap length g ∙ more_tables ts p.tables e.said l.tables ∙ ap (λ (x : Place). x.tables) (sym here);
         }
 
-    pub at_a_curve : (offset : ℕ) (tag body : List ℕ) → Some (curve_told offset tag body) ≡ rule_told (found_at held p) → ACurve offset
-    at_a_curve offset tag body t = curve_more offset (on_curve held p offset tag body (found_at held p) refl t)
+pub at_the_end : (book held : List ℕ) (p : Place) (lists : Bounded CodeList 8) (tables : Bounded KnotTable 8) → Loading book held p (listing lists) (tabling tables) → None ≡ found_at held p → ListsMean (read_book book) lists × TablesMean (read_book book) tables
+at_the_end book held p lists tables l e = finished (read_book book) lists tables (by_found book held p (listing lists) (tabling tables) l None e)
 
-    -- what holds where a table was told
-    pub record ATable (body : List ℕ) : Type 0 where
-      pub whole : 2 + 8 * get_or body 1 0 ≤ length body
-      pub sound : fault (body_reading body) (body_knots body) ≡ None
-      pub room : length ts < 8
-      pub next : (q : Place) (more : List ℕ) (new : List (Option (ℕ × List Knot))) → q ≡ place_after p (found_at held p) → more ≡ held
-          → new ≡ ts ++ (Some (body_reading body, body_knots body) ∷ []) → Loading book more q cs new
+-- what a push leaves, seen through f, where it was answered that there is room; and there is
+pub pushed : {A B : Type 0} (f : A → B) (old new : List A) (item : A) (taken : Bool) → taken ≡ true → new ≡ cond taken (old ++ (item ∷ [])) old → map f new ≡ map f old ++ (f item ∷ [])
+pushed {A} f old new item taken t e = ap (map f) (e ∙ ap (λ (q : Bool). cond q (old ++ (item ∷ [])) old) t) ∙ map-append f old (item ∷ [])
 
-    table_more : (body : List ℕ) → OnTable held p (found_at held p) body → ATable body
-    table_more body o =
-        let e = o.entry in
-        record {
-          whole = o.whole;
-          sound = o.sound;
-          room = omega (arith, l.tables, o.room);
-          next = λ q more new b m n.
-              let here : q ≡ place_after p (Some (found e)) = b ∙ ap (place_after p) o.is in
-              let added : new ≡ ts ++ map Some (table_of e.said) = n ∙ ap (λ k. ts ++ map Some (table_of k)) (sym o.said) in
-              let kept : cs ≡ cs ++ map Some (curve_of e.said) = sym (append-nil cs) ∙ ap (λ k. cs ++ map Some (curve_of k)) (sym o.said) in
-              record {
-                same = m ∙ l.same;
-                rule = (λ i. gathered (kept i) (added i) (records_at book (here i))) ∙ entry_more e o.is;
-                curves = l.curves ∙ sym (ap (λ (x : Place). x.curves) here ∙ ap (λ k. curves_after k p.curves) o.said);
-                tables = ap length n ∙ length-append ts _ ∙ omega (arith, l.tables) ∙ sym (ap (λ (x : Place). x.tables) here ∙ ap (λ k. tables_after k p.tables) o.said);
-              };
-        }
-
-    pub at_a_table : (offset : ℕ) (tag body : List ℕ) → Some (table_told offset tag body) ≡ rule_told (found_at held p) → ATable body
-    at_a_table offset tag body t = table_more body (on_table held p offset tag body (found_at held p) refl t)
+pub never_full : {A B : Type 0} (f : A → B) (items : List A) (taken : Bool) → taken ≡ ltb (length items) 8 → length (map f items) < 8 → taken ≡ false → ⊥
+never_full f items taken t h e = absurd (true≢false (sym (t ∙ lt-ltb (length items) 8 (rw length-map at h)) ∙ e))

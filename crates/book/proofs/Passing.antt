@@ -1,21 +1,30 @@
 -- Passing over operands, and the steps of the reading at a place in the book.
-use Rattle.std.proofs.Common.{◌≡◌, ℕ, zero, suc, ◌+◌, ◌-◌, ◌<◌, ◌≤◌, List, [], ◌∷◌, ◌++◌, length, get_or, take, drop, Ok, Err, sym, ap, ◌∙◌, subst, add-zero, arith}
-use Rattle.std.proofs.lemmas.List.{take_all, length-drop, drop-drop, drop_more, drop_all}
+use Rattle.std.proofs.Common.{◌≡◌, ℕ, zero, suc, ◌+◌, ◌-◌, ◌<◌, ◌≤◌, List, [], ◌∷◌, ◌++◌, length, get_or, take, drop, Some, None, Ok, Option, sym, ap, ◌∙◌, subst, add-zero, arith}
+use Rattle.std.proofs.lemmas.List.{take_all, length-drop, drop-drop, drop_more}
+use Rattle.std.specs.Option.{option_map}
 use Rattle.codelist.specs.declared.lines.Line.{Line}
+use Rattle.codelist.specs.declared.lines.LineRefusal.{LineRefusal}
+use Rattle.codelist.specs.Lines.{fault}
 use Rattle.codelist.specs.declared.lists.CodeList.{CodeList}
 use Rattle.codelist.specs.Lists.{lines_of}
 use Rattle.book.specs.declared.lines.Step.{Step}
-use Rattle.book.specs.declared.lines.Step.TheVariants.{Line as Longer, Close as Closed, Stop as Stopped}
+use Rattle.book.specs.declared.lines.Step.TheVariants.{Line as Longer}
 use Rattle.book.specs.declared.refusals.Fault.{Fault}
-use Rattle.book.specs.declared.refusals.Fault.TheVariants.{CutShort}
-use Rattle.book.specs.declared.refusals.Layer.{Layer}
-use Rattle.book.specs.declared.refusals.Layer.TheVariants.{Record as RecordLayer}
+use Rattle.book.specs.declared.refusals.Layer.TheVariants.{Line as LineLayer}
 use Rattle.book.specs.Reading.{Stepped}
-use Rattle.book.specs.Lines.{Inside, a_line, closes, stops, inside, refused, go_on, lines_from}
+use Rattle.book.specs.Lines.{fault_of, Inside, a_line, stops, line_by, inside, go_on, lines_from}
 
 -- the rest of a slice from a place on, as the code has it
 pub rest_is : (bs : List ℕ) (at : ℕ) → take (length bs - at) (drop at bs) ≡ drop at bs
 rest_is bs at = take_all (length bs - at) (drop at bs) (omega (arith, length-drop at bs))
+
+-- a line that may not stand in its list
+pub refused_line : (k : ℕ) (l : Line) (w : ℕ) (f : Fault) → option_map fault_of (fault k l) ≡ Some f → line_by (fault k l) l w ≡ stops f LineLayer
+refused_line k l w f e = by (fault k l) e
+  where
+    by : (o : Option LineRefusal) → option_map fault_of o ≡ Some f → line_by o l w ≡ stops f LineLayer
+    by None e = cc
+    by (Some r) e = let h : fault_of r ≡ f = cc in ap (λ (g : Fault). stops g LineLayer) h
 
 -- ---- the lines of a curve
 pub pass_lines : (ls : List Line) (w at : ℕ) (bs : List ℕ) → w ≤ length bs → lines_from ls w at bs ≡ lines_from ls 0 (at + w) (drop w bs)
@@ -34,7 +43,7 @@ module _ (book : List ℕ) (ls : List Line) (at : ℕ) (within : at < length boo
   at_command : (i : Inside) → inside (length ls) here ≡ i → lines_from ls 0 at here ≡ go_on (λ l w. lines_from (ls ++ (l ∷ [])) w (suc at) (drop (at + 1) book)) ls at i
   at_command i e = ap (lines_from ls 0 at) split ∙ ap (go_on (λ l w. lines_from (ls ++ (l ∷ [])) w (suc at) (drop (at + 1) book)) ls at) (ap (inside (length ls)) (sym split) ∙ e)
 
-  pub line_more : (l : Line) (w : ℕ) → inside (length ls) here ≡ a_line l w → w < length here → lines_from ls 0 at here ≡ lines_from (ls ++ (l ∷ [])) 0 (at + (1 + w)) (drop (at + (1 + w)) book)
+  line_more : (l : Line) (w : ℕ) → inside (length ls) here ≡ a_line l w → w < length here → lines_from ls 0 at here ≡ lines_from (ls ++ (l ∷ [])) 0 (at + (1 + w)) (drop (at + (1 + w)) book)
   line_more l w e h =
       let k : w ≤ length (drop (at + 1) book) = omega (arith, length-drop (at + 1) book, length-drop at book) in
       at_command (a_line l w) e ∙ pass_lines (ls ++ (l ∷ [])) w (suc at) (drop (at + 1) book) k
@@ -46,33 +55,11 @@ module _ (book : List ℕ) (ls : List Line) (at : ℕ) (within : at < length boo
       sum' : at + 1 + w ≡ at + (1 + w)
       sum' = omega arith
 
-  pub line_closes : inside (length ls) here ≡ closes → lines_from ls 0 at here ≡ Ok (ls, at)
-  line_closes e = at_command closes e
-
-  pub line_stops : (f : Fault) (y : Layer) → inside (length ls) here ≡ stops f y → lines_from ls 0 at here ≡ Err (refused f y at)
-  line_stops f y e = at_command (stops f y) e
-
-pub left_open : (book : List ℕ) (ls : List Line) (at : ℕ) → length book ≤ at → lines_from ls 0 at (drop at book) ≡ Err (refused CutShort RecordLayer at)
-left_open book ls at h = ap (lines_from ls 0 at) (drop_all at book h)
-
 -- as the code has it: the step is told of the rest of the slice
-module _ (book : List ℕ) (ls : List Line) (at : ℕ) (within : at < length book) where
-  abbrev rest : List ℕ
-  rest = take (length book - at) (drop at book)
+abbrev pub StepSays : List ℕ → List Line → ℕ → Step → Type 0
+StepSays book ls at step = Stepped ls at (take (length book - at) (drop at book)) (Ok step)
 
-  there : (step : Step) → Stepped ls rest step → Stepped ls (drop at book) step
-  there step = subst (λ (bs : List ℕ). Stepped ls bs step) (rest_is book at)
-
-  pub told_line : (c : CodeList) (w : ℕ) → Stepped ls rest (Longer c w) → lines_from ls 0 at (drop at book) ≡ lines_from (lines_of c) 0 (at + (1 + w)) (drop (at + (1 + w)) book)
-  told_line c w t =
-      let s = there (Longer c w) t in
-      line_more book ls at within s.0 w s.1.0 s.1.2 ∙ ap (λ (ms : List Line). lines_from ms 0 (at + (1 + w)) (drop (at + (1 + w)) book)) (sym s.1.1)
-
-  pub told_close : (c : CodeList) → Stepped ls rest (Closed c) → lines_from ls 0 at (drop at book) ≡ Ok (lines_of c, at)
-  told_close c t = let s = there (Closed c) t in line_closes book ls at within s.0 ∙ ap (λ (ms : List Line). Ok (ms, at)) (sym s.1)
-
-  pub told_stop : (f : Fault) (y : Layer) → Stepped ls rest (Stopped f y) → lines_from ls 0 at (drop at book) ≡ Err (refused f y at)
-  told_stop f y t = line_stops book ls at within f y (there (Stopped f y) t)
-
-  pub within_rest : (c : CodeList) (w : ℕ) → Stepped ls rest (Longer c w) → at + (1 + w) ≤ length book
-  within_rest c w t = let s = there (Longer c w) t in let l = length-drop at book in omega (arith, s.1.2)
+pub told_line : (book : List ℕ) (ls : List Line) (at : ℕ) → at < length book → (c : CodeList) (w : ℕ) → StepSays book ls at (Longer c w) → lines_from ls 0 at (drop at book) ≡ lines_from (lines_of c) 0 (at + (1 + w)) (drop (at + (1 + w)) book)
+told_line book ls at within c w t =
+    let s = subst (λ (bs : List ℕ). Stepped ls at bs (Ok (Longer c w))) (rest_is book at) t in
+    line_more book ls at within s.0 w s.1.0 s.1.2 ∙ ap (λ (ms : List Line). lines_from ms 0 (at + (1 + w)) (drop (at + (1 + w)) book)) (sym s.1.1)

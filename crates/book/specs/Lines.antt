@@ -65,3 +65,15 @@ abbrev pub lines_from : List CodeLine → ℕ → ℕ → List ℕ → Result (L
 lines_from ls n at [] = Err (refused CutShort RecordLayer at)
 lines_from ls (suc n) at (b ∷ bs) = lines_from ls n (suc at) bs
 lines_from ls zero at (b ∷ bs) = go_on (λ l w. lines_from (ls ++ (l ∷ [])) w (suc at) bs) ls at (inside (length ls) (b ∷ bs))
+
+-- the command that begins with bs, at that offset, and how many bytes its operands take; or why there is none
+abbrev pub command_read_if : ℕ → Op → ℕ → Option Command → Result (Command × ℕ) Refusal
+command_read_if at op w None = Err (refused CutShort (layer_of op) at)
+command_read_if at op w (Some m) = Ok (m, w)
+
+abbrev pub command_read_of : ℕ → Option Op → List ℕ → Result (Command × ℕ) Refusal
+command_read_of at None bs = Err (refused Unknown BookLayer at)
+command_read_of at (Some op) bs = command_read_if at op (operand_bytes op bs) (command_at op bs)
+
+abbrev pub command_read : ℕ → List ℕ → Result (Command × ℕ) Refusal
+command_read at bs = command_read_of at (op_of (slice_index bs 0)) bs

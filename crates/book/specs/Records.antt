@@ -2,6 +2,8 @@
 use Rattle.std.specs.Prelude.{ℕ, zero, suc, ◌+◌, ◌-◌, ◌*◌, cond, List, [], ◌∷◌, length, take, drop, Some, None, Ok, Err, Option, Result, nat_le, nat_lt, slice_index}
 use Rattle.codelist.specs.declared.lines.Line.{Line as CodeLine}
 use Rattle.knots.specs.declared.knots.Knot.{Knot}
+use Rattle.knots.specs.declared.knots.TableRefusal.{TableRefusal}
+use Rattle.knots.specs.declared.knots.TableRefusal.TheVariants.{Reading as BadReading, Range as BadRange, Knots as BadKnots}
 use Rattle.knots.specs.Knots.{all_ranged, lined}
 use Rattle.book.specs.declared.ops.Op.{Op}
 use Rattle.book.specs.declared.ops.Command.{Command}
@@ -52,6 +54,12 @@ body_reading b = slice_index b 0
 
 abbrev pub body_knots : List ℕ → List Knot
 body_knots b = knots_at (slice_index b 1) (drop 2 b)
+
+-- the fault of a table that may not be made
+abbrev pub fault_of_table : TableRefusal → Fault
+fault_of_table BadReading = Operand
+fault_of_table BadRange = Range
+fault_of_table BadKnots = Knots
 
 -- why a table is refused where t tables stand before it; the first cause in this order is told
 abbrev pub table_fault : ℕ → ℕ → List Knot → Option Fault

@@ -1,7 +1,12 @@
 -- What the reader tells: a record by its offset, tag and body, or a refusal.
 use Rattle.std.specs.Prelude.{ℕ, ◌+◌, cond, List, length, drop, Some, None, Ok, Err, Option, Result, nat_lt}
+use Rattle.codelist.specs.Lists.{lines_of}
+use Rattle.knots.specs.Tables.{knots_of}
 use Rattle.book.specs.declared.records.Record.{Record}
 use Rattle.book.specs.declared.records.Record.TheVariants.{Curve, Table}
+use Rattle.book.specs.declared.records.Contents.{Contents}
+use Rattle.book.specs.declared.records.Contents.TheVariants.{Curve as CurveRead, Table as TableRead}
+use Rattle.book.specs.declared.records.ReadRecord.{ReadRecord}
 use Rattle.book.specs.declared.records.Reader.{Reader}
 use Rattle.book.specs.declared.refusals.Fault.TheVariants.{TooLong}
 use Rattle.book.specs.declared.refusals.Layer.TheVariants.{Book as BookLayer}
@@ -19,10 +24,6 @@ pub data Told : Type 0 where
 abbrev pub told_of : Record → Told
 told_of (Curve tag body offset) = curve_told offset tag.now body.now
 told_of (Table tag body offset) = table_told offset tag.now body.now
-
-abbrev pub tells_of : Result Record Refusal → Told
-tells_of (Ok r) = told_of r
-tells_of (Err f) = refusal_told f
 
 -- the same of what the rules find
 abbrev pub entry_by : Said → ℕ → List ℕ → List ℕ → Told
@@ -68,7 +69,19 @@ abbrev pub rule_told : Option Found → Option Told
 rule_told None = None
 rule_told (Some f) = Some (found_told f)
 
-abbrev pub size_told : Told → ℕ
-size_told (curve_told offset tag body) = length body + 10
-size_told (table_told offset tag body) = length body + 9
-size_told (refusal_told r) = 0
+-- ---- a record that code has read, as the rules have it
+abbrev pub said_of : Contents → Said
+said_of (CurveRead l) = a_curve (lines_of l)
+said_of (TableRead k) = a_table k.reading (knots_of k)
+
+abbrev pub entry_of : ReadRecord → Entry
+entry_of r = record { offset = r.offset; tag = r.tag.now; body = r.body.now; said = said_of r.contents }
+
+abbrev pub found_of : Result ReadRecord Refusal → Found
+found_of (Ok r) = found (entry_of r)
+found_of (Err f) = stopped f
+
+abbrev pub next_of : Result (Option ReadRecord) Refusal → Option Found
+next_of (Ok None) = None
+next_of (Ok (Some r)) = Some (found (entry_of r))
+next_of (Err f) = Some (stopped f)

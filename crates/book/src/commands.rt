@@ -1,17 +1,19 @@
 // The numbers of refusals and layers; what a command is by its first byte and its operands.
-ghost use Rattle.std.specs.Prelude.{◌≡◌};
+ghost use Rattle.std.specs.Prelude.{◌≡◌, ok_or};
+ghost use Rattle.book.specs.declared.refusals.Fault.TheVariants.{Unknown};
 ghost use Rattle.book.specs.Ops.{op_of, layer_of, operand_bytes, frame_at, command_at};
 ghost use Rattle.book.specs.Numbers.{fault_number, layer_number};
+ghost use Rattle.book.specs.Lines.{refused, command_read};
 
 use crate::ops::{Command, Op};
-use crate::refusals::{Fault, Layer};
+use crate::refusals::{Fault, Layer, Refusal};
 use codelist::lines::Line;
 
-impl Fault {
-    pub fn number(self) -> u8
-        ensures { result ≡ fault_number self }
-    {
-        match self {
+impl From<Fault> for u8 {
+    ghost from_gives = { λ fault n. n ≡ fault_number fault };
+
+    fn from(fault: Fault) -> u8 {
+        match fault {
             Fault::TooLong => 20,
             Fault::Unknown => 21,
             Fault::CutShort => 22,
@@ -25,11 +27,11 @@ impl Fault {
     }
 }
 
-impl Layer {
-    pub fn number(self) -> u8
-        ensures { result ≡ layer_number self }
-    {
-        match self {
+impl From<Layer> for u8 {
+    ghost from_gives = { λ layer n. n ≡ layer_number layer };
+
+    fn from(layer: Layer) -> u8 {
+        match layer {
             Layer::Orders => 0,
             Layer::Book => 1,
             Layer::Record => 2,
@@ -38,30 +40,47 @@ impl Layer {
     }
 }
 
-impl Op {
-    // The command of that first byte.
-    pub fn of(byte: u8) -> Option<Op>
-        ensures { result ≡ op_of byte }
+impl Fault {
+    // The refusal of a command of that layer, at that offset.
+    pub(crate) fn at(self, layer: Layer, offset: usize) -> Refusal
+        ensures { result ≡ refused self layer offset }
     {
-        match byte {
-            0x01 => Some(Op::X),
-            0x02 => Some(Op::C),
-            0x03 => Some(Op::R),
-            0x10 => Some(Op::Neg),
-            0x11 => Some(Op::Abs),
-            0x12 => Some(Op::Add),
-            0x13 => Some(Op::Sub),
-            0x14 => Some(Op::Mul),
-            0x15 => Some(Op::Div),
-            0x16 => Some(Op::Max),
-            0x18 => Some(Op::Chi),
-            0x20 => Some(Op::Curve),
-            0x21 => Some(Op::End),
-            0x30 => Some(Op::Table),
-            _ => None,
+        Refusal {
+            fault: self,
+            layer,
+            offset,
         }
     }
+}
 
+// The command of that first byte.
+impl TryFrom<u8> for Op {
+    type Error = Fault;
+
+    ghost try_from_gives = { λ byte op. op ≡ ok_or (op_of byte) Unknown };
+
+    fn try_from(byte: u8) -> Result<Op, Fault> {
+        match byte {
+            0x01 => Ok(Op::X),
+            0x02 => Ok(Op::C),
+            0x03 => Ok(Op::R),
+            0x10 => Ok(Op::Neg),
+            0x11 => Ok(Op::Abs),
+            0x12 => Ok(Op::Add),
+            0x13 => Ok(Op::Sub),
+            0x14 => Ok(Op::Mul),
+            0x15 => Ok(Op::Div),
+            0x16 => Ok(Op::Max),
+            0x18 => Ok(Op::Chi),
+            0x20 => Ok(Op::Curve),
+            0x21 => Ok(Op::End),
+            0x30 => Ok(Op::Table),
+            _ => Err(Fault::Unknown),
+        }
+    }
+}
+
+impl Op {
     pub fn layer(self) -> Layer
         ensures { result ≡ layer_of self }
     {
@@ -101,13 +120,8 @@ impl Op {
         match (self, bytes) {
             (Op::Curve, [_, _, _, _, _, _, _, _, _, ..]) => Some(Command::Open),
             (Op::End, [_, ..]) => Some(Command::Close),
-            (Op::Table, [_, _, _, _, _, _, _, _, _, _, count, knots @ ..]) => {
-                if 8 * *count as usize <= knots.len() {
-                    Some(Command::Table)
-                } else {
-                    None
-                }
-            }
+            (Op::Table, [_, _, _, _, _, _, _, _, _, _, count, knots @ ..])
+                if 8 * *count as usize <= knots.len() => Some(Command::Table),
             _ => None,
         }
     }
@@ -132,4 +146,18 @@ impl Op {
         };
         Some(Command::Line(line))
     }
+}
+
+// The command that bytes begin with, at that offset, and how many bytes its operands take.
+pub(crate) fn read_command(bytes: &[u8], at: usize) -> Result<(Command, usize), Refusal>
+    ensures { result ≡ command_read at bytes.now }
+{
+    let [byte, ..] = bytes else {
+        return Err(Fault::Unknown.at(Layer::Book, at));
+    };
+    let op = Op::try_from(*byte).map_err(|fault| fault.at(Layer::Book, at))?;
+    let Some(command) = op.command(bytes) else {
+        return Err(Fault::CutShort.at(op.layer(), at));
+    };
+    Ok((command, op.operand_bytes(bytes)))
 }

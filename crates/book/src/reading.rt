@@ -1,118 +1,44 @@
 // The reader: the records of a book, one by one, each as a part of it.
-ghost use Rattle.std.specs.Prelude.{◌≡◌, ◌+◌, ◌*◌, ◌<◌, ◌≤◌, [], length, drop, slice_index};
-ghost use Rattle.book.specs.Lines.{refused, lines_from};
-ghost use Rattle.book.specs.Records.{body_reading, body_knots, table_fault, curve_by, table_found, record_at};
-ghost use Rattle.book.specs.Told.{told_of, tells_of, found_told, place_of, found_at, place_after, next_told, rule_told, size_told, start};
+ghost use Rattle.std.specs.Prelude.{◌≡◌, ◌+◌, ◌-◌, ◌*◌, ◌<◌, ◌≤◌, length, take, drop, slice_index};
+ghost use Rattle.book.specs.declared.ops.Command.TheVariants.{Open};
+ghost use Rattle.book.specs.Records.{size_of, tag_of, table_found, outside_by, record_at};
+ghost use Rattle.book.specs.Told.{told_of, entry_told, said_of, entry_of, found_of, next_of, place_of, found_at, place_after, next_told, rule_told, start};
 
+use crate::commands::read_command;
 use crate::knot_bytes::read_table;
 use crate::lines::read_lines;
-use crate::ops::{Command, Op};
-use crate::records::{Reader, Record};
+use crate::ops::Command;
+use crate::records::{Contents, ROOM, ReadRecord, Reader, Record};
 use crate::refusals::{Fault, Layer, Refusal};
-use knots::knots::TableRefusal;
-use knots::tables::KnotTable;
 
-// A book has at most so many bytes; and so many curves, and so many tables.
+// A book has at most so many bytes.
 const BYTES: usize = 8192;
 
-const ROOM: usize = 8;
-
-fn refusal(fault: Fault, layer: Layer, offset: usize) -> Refusal
-    ensures { result ≡ refused fault layer offset }
-{
-    Refusal {
-        fault,
-        layer,
-        offset,
-    }
-}
-
-// The curve that begins at that offset.
-fn curve_at<'a>(book: &'a [u8], at: usize) -> Result<Record<'a>, Refusal>
-    requires { at + 9 ≤ length book.now }
-    ensures { tells_of result ≡ found_told (curve_by at (drop at book.now) (lines_from [] 0 (at + 9) (drop (at + 9) book.now))) }
-{
-    let (_, end) = read_lines(book, at + 9)?;
-    Ok(Record::Curve {
-        tag: &book[at + 1..at + 9],
-        body: &book[at + 9..end],
-        offset: at,
-    })
-}
-
-// Why the table of that body is refused where so many stand before it.
-fn table_fault(body: &[u8], tables: usize) -> Option<Fault>
-    requires { 2 + 8 * slice_index body.now 1 ≤ length body.now }
-    ensures { result ≡ table_fault tables (body_reading body.now) (body_knots body.now) }
-{
-    match read_table(body) {
-        Err(TableRefusal::Reading) => Some(Fault::Operand),
-        Err(TableRefusal::Range) => Some(Fault::Range),
-        Err(TableRefusal::Knots) => if tables < ROOM {
-            Some(Fault::Knots)
-        } else {
-            Some(Fault::TooMany)
-        },
-        Ok(_) => if tables < ROOM {
-            None
-        } else {
-            Some(Fault::TooMany)
-        },
-    }
-}
-
-// The table that begins at that offset.
-fn table_at<'a>(book: &'a [u8], at: usize, tables: usize) -> Result<Record<'a>, Refusal>
-    requires { at + 11 + 8 * slice_index book.now (at + 10) ≤ length book.now }
-    ensures { tells_of result ≡ found_told (table_found tables at (drop at book.now)) }
-{
-    let count = book[at + 10] as usize;
-    let body = &book[at + 9..at + 11 + 8 * count];
-    if let Some(fault) = table_fault(body, tables) {
-        return Err(refusal(fault, Layer::Record, at));
-    }
-    Ok(Record::Table {
-        tag: &book[at + 1..at + 9],
-        body,
-        offset: at,
-    })
-}
-
-// What stands at a place outside curves.
-fn record_at<'a>(
-    book: &'a [u8],
-    at: usize,
-    curves: usize,
-    tables: usize,
-) -> Result<Record<'a>, Refusal>
-    requires { at < length book.now }
-    ensures { tells_of result ≡ found_told (record_at curves tables at (drop at book.now)) }
-{
-    let Some(op) = Op::of(book[at]) else {
-        return Err(refusal(Fault::Unknown, Layer::Book, at));
-    };
-    if op.command(&book[at..]).is_none() {
-        return Err(refusal(Fault::CutShort, op.layer(), at));
-    }
-    match op {
-        Op::Curve => if curves < ROOM {
-            curve_at(book, at)
-        } else {
-            Err(refusal(Fault::TooMany, Layer::Record, at))
-        },
-        Op::Table => table_at(book, at, tables),
-        _ => Err(refusal(Fault::Misplaced, op.layer(), at)),
-    }
-}
-
-impl<'a> Record<'a> {
+impl<'a> ReadRecord<'a> {
     // How many bytes it takes: the first byte, the tag, the body, and of a curve END.
     fn size(&self) -> usize
-        ensures { result ≡ size_told (told_of self.now) }
+        ensures { result ≡ size_of (entry_of self.now) }
     {
-        match self {
-            Record::Curve { body, .. } => body.len() + 10,
-            Record::Table { body, .. } => body.len() + 9,
+        match self.contents {
+            Contents::Curve(_) => self.body.len() + 10,
+            Contents::Table(_) => self.body.len() + 9,
+        }
+    }
+}
+
+impl<'a> From<ReadRecord<'a>> for Record<'a> {
+    ghost from_gives = { λ read told. told_of told ≡ entry_told (entry_of read) };
+
+    fn from(read: ReadRecord<'a>) -> Record<'a> {
+        let ReadRecord {
+            tag,
+            body,
+            offset,
+            ..
+        } = read;
+        match read.contents {
+            Contents::Curve(_) => Record::Curve { tag, body, offset },
+            Contents::Table(_) => Record::Table { tag, body, offset },
         }
     }
 }
@@ -131,27 +57,86 @@ impl<'a> Reader<'a> {
         }
     }
 
+    // The record at the reader's place, with the body up to that end.
+    fn record_to(&self, end: usize, contents: Contents) -> ReadRecord<'a>
+        requires begins { self.now.at + 9 ≤ end }
+        requires ends { end ≤ length self.now.book.now }
+        ensures { let bs = drop self.now.at self.now.book.now in entry_of result ≡ record { offset = self.now.at; tag = tag_of bs; body = take (end - (self.now.at + 9)) (drop 9 bs); said = said_of contents } }
+    {
+        ReadRecord {
+            tag: &self.book[self.at + 1..self.at + 9],
+            body: &self.book[self.at + 9..end],
+            offset: self.at,
+            contents,
+        }
+    }
+
+    // The curve at the reader's place.
+    fn curve(&self) -> Result<ReadRecord<'a>, Refusal>
+        requires { self.now.at < length self.now.book.now }
+        ensures { found_of result ≡ outside_by self.now.curves self.now.tables self.now.at (drop self.now.at self.now.book.now) Open }
+    {
+        if self.curves >= ROOM {
+            return Err(Fault::TooMany.at(Layer::Record, self.at));
+        }
+        let (list, end) = read_lines(self.book, self.at + 9)?;
+        Ok(self.record_to(end, Contents::Curve(list)))
+    }
+
+    // The table at the reader's place, whose operands take so many bytes.
+    fn table(&self, width: usize) -> Result<ReadRecord<'a>, Refusal>
+        requires count { width ≡ 10 + 8 * slice_index self.now.book.now (self.now.at + 10) }
+        requires whole { self.now.at + width < length self.now.book.now }
+        ensures { found_of result ≡ table_found self.now.tables self.now.at (drop self.now.at self.now.book.now) }
+    {
+        let at = self.at;
+        let end = at + 1 + width;
+        let read = read_table(&self.book[at + 9..end], self.tables);
+        let table = read.map_err(|fault| fault.at(Layer::Record, at))?;
+        Ok(self.record_to(end, Contents::Table(table)))
+    }
+
+    // What stands at the reader's place, outside curves.
+    fn record(&self) -> Result<ReadRecord<'a>, Refusal>
+        requires { self.now.at < length self.now.book.now }
+        ensures { found_of result ≡ record_at self.now.curves self.now.tables self.now.at (drop self.now.at self.now.book.now) }
+    {
+        let (command, width) = read_command(&self.book[self.at..], self.at)?;
+        match command {
+            Command::Line(_) => Err(Fault::Misplaced.at(Layer::Line, self.at)),
+            Command::Open => self.curve(),
+            Command::Close => Err(Fault::Misplaced.at(Layer::Record, self.at)),
+            Command::Table => self.table(width),
+        }
+    }
+
+    // The next record, with its contents; otherwise as `next`.
+    pub(crate) fn read_next(&mut self) -> Result<Option<ReadRecord<'a>>, Refusal>
+        ensures found { next_of result ≡ found_at self.old.book.now (place_of self.old) }
+        ensures place { place_of self.new ≡ place_after (place_of self.old) (found_at self.old.book.now (place_of self.old)) }
+        ensures same { self.new.book.now ≡ self.old.book.now }
+    {
+        if self.book.len() > BYTES {
+            return Err(Fault::TooLong.at(Layer::Book, 0));
+        }
+        if self.at >= self.book.len() {
+            return Ok(None);
+        }
+        let read = self.record()?;
+        self.at += read.size();
+        match read.contents {
+            Contents::Curve(_) => self.curves += 1,
+            Contents::Table(_) => self.tables += 1,
+        }
+        Ok(Some(read))
+    }
+
     // The next record; none at the book's end. A refusal leaves the reader where it was; a book that is too long is refused at once.
     pub fn next(&mut self) -> Result<Option<Record<'a>>, Refusal>
         ensures told { next_told result ≡ rule_told (found_at self.old.book.now (place_of self.old)) }
         ensures place { place_of self.new ≡ place_after (place_of self.old) (found_at self.old.book.now (place_of self.old)) }
         ensures same { self.new.book.now ≡ self.old.book.now }
     {
-        if self.book.len() > BYTES {
-            return Err(refusal(Fault::TooLong, Layer::Book, 0));
-        }
-        if self.at >= self.book.len() {
-            return Ok(None);
-        }
-        let record = match record_at(self.book, self.at, self.curves, self.tables) {
-            Ok(record) => record,
-            Err(stopped) => return Err(stopped),
-        };
-        self.at += record.size();
-        match record {
-            Record::Curve { .. } => self.curves += 1,
-            Record::Table { .. } => self.tables += 1,
-        }
-        Ok(Some(record))
+        Ok(self.read_next()?.map(Record::from))
     }
 }

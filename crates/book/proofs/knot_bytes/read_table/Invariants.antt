@@ -1,7 +1,8 @@
-use Rattle.std.proofs.Common.{◌≡◌, length, take}
-use Rattle.book.specs.Records.{knots_at}
+use Rattle.std.proofs.Common.{◌≡◌, map, take}
+use Rattle.bounded.specs.Lists.{items_of}
+use Rattle.book.specs.Records.{knot_of}
 use Rattle.book.proofs.knot_bytes.read_table.Given as goal
 
--- the first places hold the first knots
-abbrev pub invariant-loop-n : goal.invariant-loop-n
-invariant-loop-n l = (length l.knots ≡ 255) × (take l.n l.knots ≡ knots_at l.n l.rest)
+-- the knots of the bytes so far
+abbrev pub invariant-loop-bytes : goal.invariant-loop-bytes
+invariant-loop-bytes l = items_of l.knots ≡ map knot_of (take l.bytes-index l.bytes-items)
