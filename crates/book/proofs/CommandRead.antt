@@ -1,5 +1,5 @@
 -- A line that was read inside a curve.
-use Rattle.std.proofs.Common.{◌≡◌, ℕ, ◌+◌, ◌*◌, ◌<◌, Bool, true, false, cond, ltb, List, length, get_or, Some, None, Ok, Err, Option, sym, refl, ap, ◌∙◌, subst, arith, ltb-true}
+use Rattle.std.proofs.Common.{◌≡◌, ℕ, ◌<◌, Bool, true, false, cond, ltb, List, length, get_or, Some, None, Ok, Option, sym, refl, ap, ◌∙◌, subst, arith, ltb-true}
 use Rattle.book.specs.declared.ops.Op.{Op}
 use Rattle.book.specs.declared.ops.Command.{Command}
 use Rattle.book.specs.declared.ops.Command.TheVariants.{Line}
@@ -33,10 +33,10 @@ module _ (at : ℕ) (bs : List ℕ) where
             width = n;
             short = omega arith;
           }
-      there op f false t e = let z : ◌≡◌ {A = ℕ} 0 1 = cc in absurd (omega arith)
+      there op f false t e = absurd cc
 
       by : (o : Option Op) → op_of (get_or bs 0 0) ≡ o → Ok (m, w) ≡ command_read_of at o bs → Whole bs m w
-      by None f e = let z : ◌≡◌ {A = ℕ} 0 1 = cc in absurd (omega arith)
+      by None f e = absurd cc
       by (Some op) f e = there op f (ltb (operand_bytes op bs) (length bs)) refl e
 
   -- a line inside a curve

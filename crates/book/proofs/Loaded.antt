@@ -17,10 +17,10 @@ use Rattle.knots.specs.declared.knots.Knot.{Knot}
 use Rattle.knots.specs.declared.tables.KnotTable.{KnotTable}
 use Rattle.tables.specs.Family.{height_less}
 use Rattle.book.specs.declared.refusals.Refusal.{Refusal}
-use Rattle.book.specs.Records.{Said, a_curve, a_table, Entry, Found, found, stopped}
+use Rattle.book.specs.Records.{Said, a_curve, a_table, Entry, Found, found}
 use Rattle.book.specs.Books.{curves_after, tables_after, read_book}
 use Rattle.book.specs.Told.{Place, found_at, place_after}
-use Rattle.book.specs.Loading.{curve_of, table_of, curves_in, tables_in, listing, tabling, knotting, load_answer, ListsAfter, TablesAfter, ListsMean, TablesMean, curve_value, knots_value}
+use Rattle.book.specs.Loading.{curve_of, table_of, curves_in, tables_in, listing, tabling, knotting, ListsMean, TablesMean, curve_value, knots_value}
 use Rattle.book.proofs.Found.{Room}
 use Rattle.book.proofs.Walking.{records_at, on_found, records_at_lem}
 use Rattle.book.proofs.Gathering.{Lot, gathered, gather_step, Loading, Says, says}
@@ -44,7 +44,7 @@ tables_gathered (Err r) = []
 
 -- the families mean what was gathered
 finished : (r : Result (List Entry) Refusal) (lists : Bounded CodeList 8) (tables : Bounded KnotTable 8) → gathered (listing lists) (tabling tables) (Ok []) ≡ gathered [] [] r → ListsMean r lists × TablesMean r tables
-finished (Err r) lists tables e = let z : ◌≡◌ {A = ℕ} 0 1 = cc in absurd (omega arith)
+finished (Err r) lists tables e = absurd cc
 finished (Ok es) lists tables e =
     let f : listing lists ≡ curves_in es = sym (append-nil (listing lists)) ∙ ap lists_in e in
     let g : tabling tables ≡ tables_in es = sym (append-nil (tabling tables)) ∙ ap tables_gathered e in (

@@ -1,5 +1,5 @@
 -- What was so of a result before `map_err` gave its fault a layer and an offset.
-use Rattle.std.proofs.Common.{◌≡◌, ℕ, Ok, Err, Result, subst, arith}
+use Rattle.std.proofs.Common.{◌≡◌, ℕ, Ok, Err, Result, subst}
 use Rattle.std.specs.Result.{MatchResult, IsErrAnd}
 use Rattle.book.specs.declared.refusals.Fault.{Fault}
 use Rattle.book.specs.declared.refusals.Layer.{Layer}
@@ -15,5 +15,5 @@ module _ {A : Type 0} (P : Result A Fault → Type 0) (y : Layer) (at : ℕ) whe
   mapped_ok (Err f) a p h = absurd h
 
   pub mapped_err : (r : Result A Fault) (q : Refusal) → P r → MatchResult r (λ x. ◌≡◌ {A = Result A Refusal} (Err q) (Ok x)) (λ f. IsErrAnd {T = A} (Err q) (Located y at f)) → (f : Fault) × P (Err f) × Located y at f q
-  mapped_err (Ok x) q p h = let z : ◌≡◌ {A = ℕ} 0 1 = cc in absurd (omega arith)
+  mapped_err (Ok x) q p h = absurd cc
   mapped_err (Err f) q p h = (f, p, h)

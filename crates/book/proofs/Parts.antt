@@ -1,6 +1,6 @@
 -- The parts of a record, as slices of the book.
-use Rattle.std.proofs.Common.{◌≡◌, ℕ, ◌+◌, ◌-◌, ◌*◌, ◌<◌, ◌≤◌, Bool, cond, List, [], length, get_or, take, drop, Some, None, Ok, Err, Option, Result, sym, ap, ◌∙◌, arith, lt-ltb}
-use Rattle.std.proofs.lemmas.List.{drop-drop, length-drop, get_or-drop, length-take-le, get_or-take}
+use Rattle.std.proofs.Common.{◌≡◌, ℕ, ◌+◌, ◌-◌, ◌*◌, ◌<◌, Bool, cond, List, [], length, get_or, take, drop, Some, None, Ok, Err, Option, Result, sym, ap, ◌∙◌, arith, lt-ltb}
+use Rattle.std.proofs.lemmas.List.{drop-drop, get_or-drop}
 use Rattle.knots.specs.declared.tables.KnotTable.{KnotTable}
 use Rattle.knots.specs.Tables.{knots_of}
 use Rattle.book.specs.declared.ops.Command.TheVariants.{Open}

@@ -1,6 +1,6 @@
 -- Passing over operands, and the steps of the reading at a place in the book.
-use Rattle.std.proofs.Common.{◌≡◌, ℕ, zero, suc, ◌+◌, ◌-◌, ◌<◌, ◌≤◌, List, [], ◌∷◌, ◌++◌, length, get_or, take, drop, Some, None, Ok, Err, Option, Result, sym, ap, ◌∙◌, subst, add-zero, arith}
-use Rattle.std.proofs.lemmas.List.{take_all, length-drop, drop-drop, drop_more, drop_all}
+use Rattle.std.proofs.Common.{◌≡◌, ℕ, zero, suc, ◌+◌, ◌-◌, ◌<◌, ◌≤◌, List, [], ◌∷◌, ◌++◌, length, get_or, take, drop, Some, None, Ok, Option, sym, ap, ◌∙◌, subst, add-zero, arith}
+use Rattle.std.proofs.lemmas.List.{take_all, length-drop, drop-drop, drop_more}
 use Rattle.std.specs.Option.{option_map}
 use Rattle.codelist.specs.declared.lines.Line.{Line}
 use Rattle.codelist.specs.declared.lines.LineRefusal.{LineRefusal}
@@ -8,14 +8,11 @@ use Rattle.codelist.specs.Lines.{fault}
 use Rattle.codelist.specs.declared.lists.CodeList.{CodeList}
 use Rattle.codelist.specs.Lists.{lines_of}
 use Rattle.book.specs.declared.lines.Step.{Step}
-use Rattle.book.specs.declared.lines.Step.TheVariants.{Line as Longer, Close as Closed}
+use Rattle.book.specs.declared.lines.Step.TheVariants.{Line as Longer}
 use Rattle.book.specs.declared.refusals.Fault.{Fault}
-use Rattle.book.specs.declared.refusals.Refusal.{Refusal}
-use Rattle.book.specs.declared.refusals.Fault.TheVariants.{CutShort}
-use Rattle.book.specs.declared.refusals.Layer.{Layer}
-use Rattle.book.specs.declared.refusals.Layer.TheVariants.{Record as RecordLayer, Line as LineLayer}
+use Rattle.book.specs.declared.refusals.Layer.TheVariants.{Line as LineLayer}
 use Rattle.book.specs.Reading.{Stepped}
-use Rattle.book.specs.Lines.{fault_of, Inside, a_line, closes, stops, line_by, inside, refused, go_on, lines_from}
+use Rattle.book.specs.Lines.{fault_of, Inside, a_line, stops, line_by, inside, go_on, lines_from}
 
 -- the rest of a slice from a place on, as the code has it
 pub rest_is : (bs : List ℕ) (at : ℕ) → take (length bs - at) (drop at bs) ≡ drop at bs

@@ -1,4 +1,4 @@
--- What the functions that read lines answer.
+-- What the functions that read lines and tables answer.
 use Rattle.std.specs.Prelude.{◌≡◌, ℕ, ◌<◌, ◌≤◌, List, [], ◌∷◌, ◌++◌, length, Some, None, Ok, Err, Option, Result}
 use Rattle.std.specs.Option.{option_map}
 use Rattle.codelist.specs.declared.lines.Line.{Line}

@@ -24,6 +24,7 @@ pub fn load(book: &[u8], lists: &mut ListTable, tables: &mut TableList) -> Resul
             Contents::Curve(list) => curves.push(list),
             Contents::Table(table) => knots.push(table),
         };
+        // the reader finds no more than there is room for
         kept.map_err(|_| Fault::TooMany.at(Layer::Record, read.offset))?;
     }
     *lists = curves;

@@ -91,10 +91,8 @@ impl<'a> Reader<'a> {
     {
         let at = self.at;
         let end = at + 1 + width;
-        let table = read_table(&self.book[at + 9..end], self.tables).map_err(|fault| fault.at(
-            Layer::Record,
-            at,
-        ))?;
+        let read = read_table(&self.book[at + 9..end], self.tables);
+        let table = read.map_err(|fault| fault.at(Layer::Record, at))?;
         Ok(self.record_to(end, Contents::Table(table)))
     }
 
