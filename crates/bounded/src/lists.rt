@@ -1,4 +1,4 @@
-// The declared type.
+// The declared types.
 ghost use Rattle.std.specs.Prelude.{◌≡◌, ◌≤◌, length};
 ghost use Rattle.std.specs.Option.{ForSome};
 ghost use Rattle.bounded.specs.Places.{placed};
@@ -6,6 +6,7 @@ ghost use Rattle.bounded.specs.Places.{placed};
 use std::alloc::AllocError;
 
 // At most N items, in order: the first len of the places, which stand from the first item on.
+// An array with a length beside it, since no memory is asked for.
 pub struct Bounded<T, const N: usize> {
     places: Option<[T; N]>,
     len: usize,
@@ -17,6 +18,7 @@ pub struct Bounded<T, const N: usize> {
 #[derive(Clone, Copy, PartialEq, Eq, Debug)]
 pub struct Full;
 
+// By hand, since no derive copies a generic struct with ghost fields.
 impl<T: Copy, const N: usize> Clone for Bounded<T, N> {
     ghost is_clone = { λ x y. y ≡ x };
 
