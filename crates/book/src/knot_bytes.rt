@@ -22,8 +22,8 @@ impl From<TableRefusal> for Fault {
     }
 }
 
-// The knot in eight bytes.
-fn knot_of(bytes: &[u8; 8]) -> Knot
+// The knot in eight bytes: x, then y, big-endian.
+pub fn knot_of(bytes: &[u8; 8]) -> Knot
     ensures { result ≡ knot_of bytes.now }
 {
     let [x0, x1, x2, x3, y0, y1, y2, y3] = *bytes;

@@ -2,7 +2,7 @@
 #![tactic(auto)]
 
 pub mod commands;
-mod knot_bytes;
+pub mod knot_bytes;
 pub mod lines;
 pub mod loading;
 pub mod ops;

@@ -16,19 +16,20 @@ mod tests {
     use crate::lines::{Line, LineRefusal};
     use crate::lists::{CodeList, ListTable};
     use crate::plain::Lists;
+    use bounded::lists::Full;
     use family::cells::Cell;
     use family::families::Family;
     use interval::enclosures::Enclosure;
     use std::test::Fail;
 
-    fn over_one_to_two(list: CodeList) -> Enclosure {
+    fn over_one_to_two(list: CodeList) -> Result<Enclosure, Full> {
         let mut items = ListTable::new();
-        let _taken = items.push(list);
+        items.push(list)?;
         let lists = Lists {
             items,
             way: Intervals,
         };
-        lists.enclosure(0, Cell { lo: 1000, hi: 2000 }, &[None; 8])
+        Ok(lists.enclosure(0, Cell { lo: 1000, hi: 2000 }, &[None; 8]))
     }
 
     #[test]
@@ -38,7 +39,7 @@ mod tests {
         list.push(Line::C(4000))?;
         list.push(Line::Sub(1, 2))?;
         assert_eq!(rt;
-            over_one_to_two(list),
+            over_one_to_two(list)?,
             Enclosure::Bounds { lo: -3000, hi: 0 }
         );
         Ok(())
@@ -52,7 +53,7 @@ mod tests {
         list.push(Line::Add(0, 1))?;
         list.push(Line::Mul(2, 3))?;
         assert_eq!(rt;
-            over_one_to_two(list),
+            over_one_to_two(list)?,
             Enclosure::Bounds { lo: -4000, hi: 0 }
         );
         Ok(())

@@ -7,6 +7,7 @@ ghost use Rattle.hostcall.specs.Numbers.{number_given};
 mod refusals;
 
 use crate::refusals::HostRefusal;
+use book::knot_bytes::knot_of;
 use book::ops::{Command, Op};
 use bounded::lists::Bounded;
 use codelist::intervals::Intervals;
@@ -73,15 +74,6 @@ fn row_of(bytes: &[u8]) -> Result<Row, HostRefusal> {
         *place = reading_of(reading)?;
     }
     Ok(row)
-}
-
-// A knot's eight bytes: x, y.
-fn knot_of(bytes: &[u8; 8]) -> Knot {
-    let [x0, x1, x2, x3, y0, y1, y2, y3] = *bytes;
-    Knot {
-        x: i32::from_be_bytes([x0, x1, x2, x3]),
-        y: i32::from_be_bytes([y0, y1, y2, y3]),
-    }
 }
 
 // Room for more knots than a table may have.
