@@ -54,7 +54,7 @@ fn next_line(bytes: &[u8], at: usize, list: Option<CodeList>) -> Result<Step, Re
     }
 }
 
-// The lines from that offset to END, as a list, and END's offset. By offsets, since each command tells how far it is to the next.
+// The lines from that offset to END, as a list, and END's offset. By offsets and not over items: each command tells how far it is to the next.
 pub fn read_lines(book: &[u8], from: usize) -> Result<(CodeList, usize), Refusal>
     ensures { Read (lines_from [] 0 from (drop from book.now)) from (length book.now) result }
 {

@@ -27,6 +27,7 @@ pub trait Family {
     fn curves(&self) -> usize
         ensures { result ≡ count self.now };
 
+    // Cell and row apart: a search keeps one row while its cell changes at each step.
     fn enclosure(&self, k: usize, cell: Cell, row: &Row) -> Enclosure
         ensures { result ≡ answer self.now k cell row.now };
 }

@@ -25,7 +25,8 @@ impl From<Reading> for Enclosure {
     }
 }
 
-// The enclosure of a reading: its ends, or no bounds where it is absent.
+// The enclosure of a reading: its ends, or no bounds where it is absent. A function, since an implementation must name a type of its crate,
+// and neither an Option nor an enclosure is one of this crate's.
 pub fn reading_pair(r: Option<Reading>) -> Enclosure
     ensures { result ≡ reading_pair r }
 {

@@ -72,7 +72,8 @@ fn times(a: i32, d: i32) -> i64
 }
 
 // n/d rounded down and up. A quotient of such numbers always fits, so the 0 stands for nothing. One function that takes the rounding
-// would have to take what it promises too, which is no plainer.
+// would have to take what it promises too, which is no plainer; nor is a type for a dividend of that size or a divisor that is not 0,
+// which would be made for each of eight quotients and taken apart at once.
 fn down(n: i64, d: i64) -> i64
     requires size { unsigned_abs n ≤ 2 ^ 62 }
     requires nonzero { d ≢ pos 0 }
@@ -89,7 +90,8 @@ fn up(n: i64, d: i64) -> i64
     ceil_div(n, d).unwrap_or(0)
 }
 
-// The four products of ends over 1000, the least rounded down and the greatest rounded up.
+// The four products of ends over 1000, the least rounded down and the greatest rounded up. By four ends, here and below: a rule takes them
+// out of its pairs in a pattern, and a struct of two would be made to be taken apart again.
 pub fn multiply(a: i32, b: i32, d: i32, e: i32) -> Enclosure
     ensures { result ≡ products a b d e }
 {
