@@ -19,7 +19,8 @@ pub fn floor_div(n: i64, d: i64) -> Option<i64>
     }
 }
 
-// n/d rounded up. Not one function with a direction: each is two lines, and they differ in a sign and a step. None where d is 0, or where the quotient passes 64 bits (i64::MIN by -1).
+// n/d rounded up. None where d is 0, or where the quotient passes 64 bits (i64::MIN by -1).
+// Not one function with a direction: each is a few lines, and they differ in a sign and a step.
 pub fn ceil_div(n: i64, d: i64) -> Option<i64>
     ensures value { result ≡ ceil_div n d }
     ensures meaning { IfSome result (IsCeiling n d) }
