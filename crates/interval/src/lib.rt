@@ -16,10 +16,10 @@ mod tests {
 
     #[test]
     fn products_and_quotients(rt: HostRuntime) {
-        assert_eq!(rt; pair(1, 1).mul(pair(1, 1)), pair(0, 1));
-        assert_eq!(rt; pair(-1, -1).mul(pair(1, 1)), pair(-1, 0));
-        assert_eq!(rt; pair(1000, 1000).div(pair(3000, 3000)), pair(333, 334));
-        assert_eq!(rt; pair(1000, 1000).div(pair(0, 5)), Enclosure::NoBounds);
+        assert_eq!(rt; pair(1, 1) * pair(1, 1), pair(0, 1));
+        assert_eq!(rt; pair(-1, -1) * pair(1, 1), pair(-1, 0));
+        assert_eq!(rt; pair(1000, 1000) / pair(3000, 3000), pair(333, 334));
+        assert_eq!(rt; pair(1000, 1000) / pair(0, 5), Enclosure::NoBounds);
     }
 
     #[test]
@@ -28,9 +28,9 @@ mod tests {
             pair(1_500_000_000, 1_500_000_000),
             pair(600_000_000, 600_000_000),
         );
-        assert_eq!(rt; large.add(more), Enclosure::NoBounds);
+        assert_eq!(rt; large + more, Enclosure::NoBounds);
         let limit = pair(2_000_000_000, 2_000_000_000);
-        assert_eq!(rt; limit.add(pair(0, 0)), limit);
+        assert_eq!(rt; limit + pair(0, 0), limit);
     }
 
     #[test]

@@ -10,6 +10,7 @@ ghost use Rattle.interval.specs.Meaning.{Holds, Chooses, Follows, Law1, Law2, Hu
 use crate::enclosures::Enclosure::{Bounds, NoBounds};
 use crate::enclosures::{Branch, Enclosure};
 use crate::ends::{divide, farthest_size, keep, multiply, nearest_size};
+use std::ops::{Add, Div, Mul, Neg, Sub};
 
 // What f makes of the ends; no bounds where there are none.
 fn on_one<F: FnOnce(i32, i32) -> Enclosure>(p: Enclosure, f: F) -> Enclosure
@@ -37,46 +38,66 @@ fn on_both<F: FnOnce(i32, i32, i32, i32) -> Enclosure>(
     }
 }
 
-impl Enclosure {
-    // −[a,b] is [−b,−a].
-    pub fn neg(self) -> Enclosure
-        ensures { Follows (neg self) (Law1 (each negated) self) result }
-    {
+// −[a,b] is [−b,−a].
+impl Neg for Enclosure {
+    type Output = Enclosure;
+
+    ghost neg_gives = { λ p r. Follows (neg p) (Law1 (each negated) p) r };
+
+    fn neg(self) -> Enclosure {
         on_one(self, |a, b| keep(-(b as i64), -(a as i64)))
     }
+}
 
-    // [a,b] + [d,e] is [a + d, b + e].
-    pub fn add(self, other: Enclosure) -> Enclosure
-        ensures { Follows (add self other) (Law2 (both plus) self other) result }
-    {
+// [a,b] + [d,e] is [a + d, b + e].
+impl Add for Enclosure {
+    type Output = Enclosure;
+
+    ghost add_gives = { λ p q r. Follows (add p q) (Law2 (both plus) p q) r };
+
+    fn add(self, other: Enclosure) -> Enclosure {
         on_both(self, other, |a, b, d, e| {
             keep(a as i64 + d as i64, b as i64 + e as i64)
         })
     }
+}
 
-    // [a,b] − [d,e] is [a − e, b − d].
-    pub fn sub(self, other: Enclosure) -> Enclosure
-        ensures { Follows (sub self other) (Law2 (both minus) self other) result }
-    {
+// [a,b] − [d,e] is [a − e, b − d].
+impl Sub for Enclosure {
+    type Output = Enclosure;
+
+    ghost sub_gives = { λ p q r. Follows (sub p q) (Law2 (both minus) p q) r };
+
+    fn sub(self, other: Enclosure) -> Enclosure {
         on_both(self, other, |a, b, d, e| {
             keep(a as i64 - e as i64, b as i64 - d as i64)
         })
     }
+}
 
-    // The four products of ends over 1000: the least rounded down, the greatest rounded up.
-    pub fn mul(self, other: Enclosure) -> Enclosure
-        ensures { Follows (mul self other) (Law2 (both times) self other) result }
-    {
+// The four products of ends over 1000: the least rounded down, the greatest rounded up.
+impl Mul for Enclosure {
+    type Output = Enclosure;
+
+    ghost mul_gives = { λ p q r. Follows (mul p q) (Law2 (both times) p q) r };
+
+    fn mul(self, other: Enclosure) -> Enclosure {
         on_both(self, other, |a, b, d, e| multiply(a, b, d, e))
     }
+}
 
-    // The four quotients 1000·end/end, rounded likewise; no bounds where the divisor spans zero.
-    pub fn div(self, other: Enclosure) -> Enclosure
-        ensures { Follows (div self other) (Law2 quotient self other) result }
-    {
+// The four quotients 1000·end/end, rounded likewise; no bounds where the divisor spans zero.
+impl Div for Enclosure {
+    type Output = Enclosure;
+
+    ghost div_gives = { λ p q r. Follows (div p q) (Law2 quotient p q) r };
+
+    fn div(self, other: Enclosure) -> Enclosure {
         on_both(self, other, |a, b, d, e| divide(a, b, d, e))
     }
+}
 
+impl Enclosure {
     // From 0, or from the end nearer to zero where the pair does not span zero, to the end farther from it.
     pub fn abs(self) -> Enclosure
         ensures { Follows (abs self) (Law1 (each absolute) self) result }

@@ -14,6 +14,7 @@ use family::cells::Cell;
 use family::readings::Reading;
 use family::rows::reading_pair;
 use interval::enclosures::Enclosure;
+use std::ops::{Add, Div, Mul, Neg, Sub};
 
 // The pair of two ends.
 fn pair(lo: i32, hi: i32) -> Enclosure
@@ -59,21 +60,92 @@ impl Slope {
     {
         Slope::level(reading_pair(o))
     }
+}
 
-    // The rules below name each part, also where all three follow one rule: a function that takes the rule would be no plainer.
+// The rules below name each part, also where all three follow one rule: a function that takes the rule would be no plainer.
 
-    // Part by part.
+// Part by part.
+impl Neg for Slope {
+    type Output = Slope;
+
+    ghost neg_gives = { λ i r. Follows (neg_slope i) (Law1 (each negated) i) r };
+
     #[tactic(auto, using(crate::proofs::Keeps::neg_follows))]
-    pub fn neg(self) -> Slope
-        ensures { Follows (neg_slope self) (Law1 (each negated) self) result }
-    {
+    fn neg(self) -> Slope {
         Slope {
-            v: self.v.neg(),
-            u: self.u.neg(),
-            s: self.s.neg(),
+            v: -self.v,
+            u: -self.u,
+            s: -self.s,
         }
     }
+}
 
+// Part by part.
+impl Add for Slope {
+    type Output = Slope;
+
+    ghost add_gives = { λ i j r. Follows (add_slope i j) (Law2 (both plus) i j) r };
+
+    #[tactic(auto, using(crate::proofs::Keeps::add_follows))]
+    fn add(self, other: Slope) -> Slope {
+        Slope {
+            v: self.v + other.v,
+            u: self.u + other.u,
+            s: self.s + other.s,
+        }
+    }
+}
+
+// Part by part.
+impl Sub for Slope {
+    type Output = Slope;
+
+    ghost sub_gives = { λ i j r. Follows (sub_slope i j) (Law2 (both minus) i j) r };
+
+    #[tactic(auto, using(crate::proofs::Keeps::sub_follows))]
+    fn sub(self, other: Slope) -> Slope {
+        Slope {
+            v: self.v - other.v,
+            u: self.u - other.u,
+            s: self.s - other.s,
+        }
+    }
+}
+
+// v times the other's slope, plus the slope times the other's u.
+impl Mul for Slope {
+    type Output = Slope;
+
+    ghost mul_gives = { λ i j r. Follows (mul_slope i j) (Law2 (both times) i j) r };
+
+    #[tactic(auto, using(crate::proofs::Keeps::mul_follows))]
+    fn mul(self, other: Slope) -> Slope {
+        Slope {
+            v: self.v * other.v,
+            u: self.u * other.u,
+            s: self.v * other.s + self.s * other.u,
+        }
+    }
+}
+
+// The slope less the quotient at the middle times the other's slope, over the other's v.
+impl Div for Slope {
+    type Output = Slope;
+
+    ghost div_gives = { λ i j r. Follows (div_slope i j) (Law2 quotient i j) r };
+
+    #[tactic(auto, using(crate::proofs::Keeps::div_follows))]
+    fn div(self, other: Slope) -> Slope {
+        let u = self.u / other.u;
+        Slope {
+            v: self.v / other.v,
+            u,
+            s: (self.s - u * other.s) / other.v,
+        }
+    }
+}
+
+impl Slope {
     // The slope bends where v may change its sign.
     #[tactic(auto, using(crate::proofs::Keeps::abs_follows))]
     pub fn abs(self) -> Slope
@@ -83,58 +155,6 @@ impl Slope {
             v: self.v.abs(),
             u: self.u.abs(),
             s: bent_slope(self.v, self.s),
-        }
-    }
-
-    // Part by part.
-    #[tactic(auto, using(crate::proofs::Keeps::add_follows))]
-    pub fn add(self, other: Slope) -> Slope
-        ensures { Follows (add_slope self other) (Law2 (both plus) self other) result }
-    {
-        Slope {
-            v: self.v.add(other.v),
-            u: self.u.add(other.u),
-            s: self.s.add(other.s),
-        }
-    }
-
-    // Part by part.
-    #[tactic(auto, using(crate::proofs::Keeps::sub_follows))]
-    pub fn sub(self, other: Slope) -> Slope
-        ensures { Follows (sub_slope self other) (Law2 (both minus) self other) result }
-    {
-        Slope {
-            v: self.v.sub(other.v),
-            u: self.u.sub(other.u),
-            s: self.s.sub(other.s),
-        }
-    }
-
-    // v times the other's slope, plus the slope times the other's u.
-    #[tactic(auto, using(crate::proofs::Keeps::mul_follows))]
-    pub fn mul(self, other: Slope) -> Slope
-        ensures { Follows (mul_slope self other) (Law2 (both times) self other) result }
-    {
-        let near = self.v.mul(other.s);
-        let far = self.s.mul(other.u);
-        Slope {
-            v: self.v.mul(other.v),
-            u: self.u.mul(other.u),
-            s: near.add(far),
-        }
-    }
-
-    // The slope less the quotient at the middle times the other's slope, over the other's v.
-    #[tactic(auto, using(crate::proofs::Keeps::div_follows))]
-    pub fn div(self, other: Slope) -> Slope
-        ensures { Follows (div_slope self other) (Law2 quotient self other) result }
-    {
-        let u = self.u.div(other.u);
-        let rest = self.s.sub(u.mul(other.s));
-        Slope {
-            v: self.v.div(other.v),
-            u,
-            s: rest.div(other.v),
         }
     }
 
@@ -168,8 +188,8 @@ impl Slope {
         ensures { result ≡ answer_of cell self }
     {
         let middle = cell.middle();
-        let reach = pair(cell.lo, cell.hi).sub(pair(middle, middle));
-        match self.u.add(self.s.mul(reach)) {
+        let reach = pair(cell.lo, cell.hi) - pair(middle, middle);
+        match self.u + self.s * reach {
             Enclosure::NoBounds => self.v,
             sum => self.v.common(sum),
         }

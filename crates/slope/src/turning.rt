@@ -31,9 +31,9 @@ pub fn bent_slope(v: Enclosure, s: Enclosure) -> Enclosure
     if lo >= 0 {
         s
     } else if hi <= 0 {
-        s.neg()
+        -s
     } else {
-        s.hull(s.neg())
+        s.hull(-s)
     }
 }
 

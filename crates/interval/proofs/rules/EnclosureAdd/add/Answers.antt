@@ -2,7 +2,7 @@ use Rattle.std.proofs.Common.{rules}
 use Rattle.interval.specs.Rules.{add}
 use Rattle.interval.proofs.Laws.{add_follows}
 use Rattle.interval.proofs.Sizes.{sum_again}
-use Rattle.interval.proofs.enclosures.Enclosure.add.Goals as goal
+use Rattle.interval.proofs.rules.EnclosureAdd.add.Goals as goal
 
 pub returns : goal.returns
 unfolding add

@@ -2,7 +2,7 @@ use Rattle.std.proofs.Common.{rules}
 use Rattle.interval.specs.Rules.{sub}
 use Rattle.interval.proofs.Laws.{sub_follows}
 use Rattle.interval.proofs.Sizes.{difference_again}
-use Rattle.interval.proofs.enclosures.Enclosure.sub.Goals as goal
+use Rattle.interval.proofs.rules.EnclosureSub.sub.Goals as goal
 
 pub returns : goal.returns
 unfolding sub

@@ -1,7 +1,7 @@
 use Rattle.std.proofs.Common.{rules}
 use Rattle.interval.specs.Rules.{div}
 use Rattle.interval.proofs.Laws.{div_follows}
-use Rattle.interval.proofs.enclosures.Enclosure.div.Goals as goal
+use Rattle.interval.proofs.rules.EnclosureDiv.div.Goals as goal
 
 pub returns : goal.returns
 unfolding div
