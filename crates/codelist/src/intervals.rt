@@ -47,7 +47,7 @@ impl Kind for Intervals {
     }
 
     fn neg(e: Enclosure) -> Enclosure {
-        e.neg()
+        -e
     }
 
     fn abs(e: Enclosure) -> Enclosure {
@@ -55,15 +55,15 @@ impl Kind for Intervals {
     }
 
     fn add(e: Enclosure, f: Enclosure) -> Enclosure {
-        e.add(f)
+        e + f
     }
 
     fn sub(e: Enclosure, f: Enclosure) -> Enclosure {
-        e.sub(f)
+        e - f
     }
 
     fn mul(e: Enclosure, f: Enclosure) -> Enclosure {
-        e.mul(f)
+        e * f
     }
 
     fn max(e: Enclosure, f: Enclosure) -> Enclosure {
@@ -75,6 +75,6 @@ impl Kind for Intervals {
     }
 
     fn div(e: Enclosure, f: Enclosure) -> Enclosure {
-        e.div(f)
+        e / f
     }
 }

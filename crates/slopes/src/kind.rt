@@ -53,7 +53,7 @@ impl Kind for Slopes {
     }
 
     fn neg(e: Slope) -> Slope {
-        e.neg()
+        -e
     }
 
     fn abs(e: Slope) -> Slope {
@@ -61,15 +61,15 @@ impl Kind for Slopes {
     }
 
     fn add(e: Slope, f: Slope) -> Slope {
-        e.add(f)
+        e + f
     }
 
     fn sub(e: Slope, f: Slope) -> Slope {
-        e.sub(f)
+        e - f
     }
 
     fn mul(e: Slope, f: Slope) -> Slope {
-        e.mul(f)
+        e * f
     }
 
     fn max(e: Slope, f: Slope) -> Slope {
@@ -81,6 +81,6 @@ impl Kind for Slopes {
     }
 
     fn div(e: Slope, f: Slope) -> Slope {
-        e.div(f)
+        e / f
     }
 }

@@ -19,7 +19,7 @@ pub fn table_enclosure(table: &KnotTable, cell: Cell, row: &Row) -> Enclosure
         lo: extent.lo,
         hi: extent.hi,
     };
-    height.sub(reading_pair(reading_at(row, table.reading())))
+    height - reading_pair(reading_at(row, table.reading()))
 }
 
 impl Enclosing<KnotTable> for LessReading {
