@@ -21,6 +21,7 @@ use family::families::Family;
 use family::readings::Reading;
 use family::rows::Row;
 use interval::enclosures::Sign;
+use slope::entries::Slope;
 use slopes::asking::SlopeLists;
 use slopes::kind::Slopes;
 
@@ -100,7 +101,8 @@ fn verdict(sign: Option<Sign>, wide: bool) -> &'static str {
     }
 }
 
-// The curves that are shown, and the readings under which they are asked.
+// The curves that are shown, and the readings under which they are asked. Each call below is lent the handle that prints, and names the curve and
+// the cell that it asks of.
 #[derive(Clone, Copy)]
 struct Shown {
     lists: ListTable,
@@ -123,13 +125,19 @@ impl Shown {
         }
     }
 
+    // The entries of a list over the cell, and its last line's.
+    fn entries(&self, list: &CodeList, cell: Cell) -> (Table<Slope>, Slope) {
+        let mut table = Table::new(Slopes::blank());
+        let last = run::<Slopes>(&mut table, list, cell, &self.row);
+        (table, last)
+    }
+
     // Each line of a curve with its entry over the cell.
     fn show_entries(&self, rt: &HostRuntime, k: usize, cell: Cell) -> Result<(), AccountError> {
         let Some(list) = self.lists.get(k) else {
             return Ok(());
         };
-        let mut table = Table::new(Slopes::blank());
-        run::<Slopes>(&mut table, list, cell, &self.row);
+        let (table, _) = self.entries(list, cell);
         for (n, line) in list.lines().iter().enumerate() {
             let entry = table.entry(Place::clamped(n));
             println!(rt; "  {n} {line}: {entry}")?;
@@ -142,8 +150,7 @@ impl Shown {
         let Some(list) = self.lists.get(k) else {
             return Ok(());
         };
-        let mut table = Table::new(Slopes::blank());
-        let entry = run::<Slopes>(&mut table, list, cell, &self.row);
+        let (_, entry) = self.entries(list, cell);
         let plain = self.plain().enclosure(k, cell, &self.row);
         let sloped = self.sloped().enclosure(k, cell, &self.row);
         let Cell { lo, hi } = cell;

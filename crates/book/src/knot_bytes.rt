@@ -4,9 +4,9 @@ ghost use Rattle.bounded.specs.Lists.{items_of};
 ghost use Rattle.book.specs.Records.{knot_of, knots_at, body_reading, body_knots, fault_of_table};
 ghost use Rattle.book.specs.Reading.{TableRead};
 
-use crate::records::ROOM;
 use crate::refusals::Fault;
 use bounded::lists::Bounded;
+use family::curves::ROOM;
 use knots::knots::{Knot, TableRefusal};
 use knots::tables::KnotTable;
 

@@ -8,8 +8,9 @@ use crate::commands::read_command;
 use crate::knot_bytes::read_table;
 use crate::lines::read_lines;
 use crate::ops::Command;
-use crate::records::{Contents, ROOM, ReadRecord, Reader, Record};
+use crate::records::{Contents, ReadRecord, Reader, Record};
 use crate::refusals::{Fault, Layer, Refusal};
+use family::curves::ROOM;
 
 // A book has at most so many bytes.
 const BYTES: usize = 8192;
@@ -70,6 +71,9 @@ impl<'a> Reader<'a> {
             contents,
         }
     }
+
+    // The private ones here want the place to lie in the book: `read_next` has looked. At the book's end it does not, so it is no invariant of
+    // the reader.
 
     // The curve at the reader's place.
     fn curve(&self) -> Result<ReadRecord<'a>, Refusal>
@@ -132,6 +136,7 @@ impl<'a> Reader<'a> {
     }
 
     // The next record; none at the book's end. A refusal leaves the reader where it was; a book that is too long is refused at once.
+    // Not an Iterator's: a refusal would be told again for ever, and a `for` wants an end.
     pub fn next(&mut self) -> Result<Option<Record<'a>>, Refusal>
         ensures told { next_told result ≡ rule_told (found_at self.old.book.now (place_of self.old)) }
         ensures place { place_of self.new ≡ place_after (place_of self.old) (found_at self.old.book.now (place_of self.old)) }

@@ -2,9 +2,6 @@
 use codelist::lists::CodeList;
 use knots::tables::KnotTable;
 
-// A book has at most so many curves, and so many tables.
-pub(crate) const ROOM: usize = 8;
-
 // A curve or a table, as parts of the book: its tag of eight bytes, and its body. A curve's body is its lines; a table's the reading's number, the
 // knot count and the knots. The offset is that of its first byte.
 #[derive(Clone, Copy)]

@@ -18,7 +18,7 @@ pub struct Bounded<T, const N: usize> {
 #[derive(Clone, Copy, PartialEq, Eq, Debug)]
 pub struct Full;
 
-// By hand, since no derive copies a generic struct with ghost fields.
+// By hand: tried, and the derive is refused for a generic struct with ghost fields.
 impl<T: Copy, const N: usize> Clone for Bounded<T, N> {
     ghost is_clone = { λ x y. y ≡ x };
 

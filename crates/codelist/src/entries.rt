@@ -10,7 +10,7 @@ pub struct Table<E> {
     ghost sized: { length entries ≡ line_limit },
 }
 
-// By hand: a struct with a type parameter and a ghost field derives no Clone.
+// By hand: tried, and the derive is refused for a struct with a type parameter and a ghost field.
 impl<E: Copy> Clone for Table<E> {
     ghost is_clone = { λ x y. y ≡ x };
 
@@ -40,8 +40,15 @@ impl<E: Copy> Table<E> {
         self.entries[at.index()]
     }
 
-    // The entry of a line into its place.
-    pub(crate) fn put(&mut self, at: Place, e: E)
+    // What an operand reads: the entry of the line that it names, or blank where no line is.
+    pub(crate) fn read(&self, i: u8, blank: E) -> E
+        ensures { result ≡ slice_index_or self.now.entries i blank }
+    {
+        *self.entries.get(i as usize).unwrap_or(&blank)
+    }
+
+    // The entry of a line into its place; no other is touched.
+    pub fn put(&mut self, at: Place, e: E)
         ensures { self.new.entries ≡ slice_set self.old.entries at.n e }
     {
         let n = at.index();

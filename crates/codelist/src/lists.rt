@@ -6,6 +6,7 @@ ghost use Rattle.codelist.specs.Lines.{valid};
 use crate::lines::Line;
 use crate::places::LINES;
 use bounded::lists::Bounded;
+use family::curves::ROOM;
 
 #[derive(Clone, Copy)]
 pub struct CodeList {
@@ -14,7 +15,7 @@ pub struct CodeList {
     ghost sound: { valid 0 (items_of lines) ≡ true },
 }
 
-// At most eight lists.
-pub type ListTable = Bounded<CodeList, 8>;
+// As many lists as a family has room for.
+pub type ListTable = Bounded<CodeList, ROOM>;
 
 pub mod made;

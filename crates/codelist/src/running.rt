@@ -1,5 +1,5 @@
 // Running a list over any kind of value.
-ghost use Rattle.std.specs.Prelude.{◌≡◌, length, take, drop, slice_index_or};
+ghost use Rattle.std.specs.Prelude.{◌≡◌, length, take, drop};
 ghost use Rattle.codelist.specs.Lists.{lines_of};
 ghost use Rattle.codelist.specs.Evaluate.{entry, entries, last_entry};
 ghost use Rattle.codelist.specs.Kinds.{over};
@@ -9,23 +9,9 @@ use crate::entries::Table;
 use crate::kinds::Kind;
 use crate::lines::Line;
 use crate::lists::CodeList;
-use crate::places::{LINES, Place};
+use crate::places::Place;
 use family::cells::Cell;
 use family::rows::{Row, reading_at};
-
-impl<E: Copy> Table<E> {
-    // What an operand reads: the entry of the line that it names, or blank where no line is.
-    fn read(&self, i: u8, blank: E) -> E
-        ensures { result ≡ slice_index_or self.now.entries i blank }
-    {
-        let i = i as usize;
-        if i < LINES {
-            self.entry(Place::clamped(i))
-        } else {
-            blank
-        }
-    }
-}
 
 // The entry of a line, from those of the lines before it.
 fn entry_of<K: Kind>(table: &Table<K::Entry>, line: Line, cell: Cell, row: &Row) -> K::Entry

@@ -27,10 +27,13 @@ pub trait Enclosing<T> {
         ensures { result ≡ answer item.now cell row.now };
 }
 
-// At most eight curves, all enclosed in one way.
+// A family of items, and a book, has room for so many curves of a type.
+pub const ROOM: usize = 8;
+
+// Curves, all enclosed in one way.
 #[derive(Clone, Copy)]
 pub struct Curves<T: Copy, W> {
-    pub items: Bounded<T, 8>,
+    pub items: Bounded<T, ROOM>,
     pub way: W,
 }
 

@@ -28,7 +28,7 @@ use tables::curves::{LessReading, TableList, Tables};
 // A line's eight bytes: the operation, three operands, a constant.
 fn line_of(bytes: &[u8; 8]) -> Result<Line, HostRefusal> {
     let [byte, a, b, c, v0, v1, v2, v3] = *bytes;
-    let op = Op::try_from(byte).map_err(|_| HostRefusal::Malformed)?;
+    let op = Op::try_from(byte)?;
     let command = match op {
         Op::C => op.command(&[byte, v0, v1, v2, v3]),
         _ => op.command(&[byte, a, b, c]),
@@ -39,6 +39,7 @@ fn line_of(bytes: &[u8; 8]) -> Result<Line, HostRefusal> {
     }
 }
 
+// Line by line: the first that is malformed or refused decides.
 fn list_of(first: &[u8; 8], rest: &[[u8; 8]]) -> Result<CodeList, HostRefusal> {
     let mut list = CodeList::new(line_of(first)?)?;
     for line in rest {
@@ -79,6 +80,7 @@ fn row_of(bytes: &[u8]) -> Result<Row, HostRefusal> {
 // Room for more knots than a table may have.
 const ROOM: usize = 300;
 
+// The loop is a book's, with more room: a function over both would have to promise what was pushed so far, and be longer than the loop.
 fn table_of(reading: u8, bytes: &[u8]) -> Result<KnotTable, HostRefusal> {
     let (knots, []) = bytes.as_chunks::<8>() else {
         return Err(HostRefusal::Malformed);
@@ -151,8 +153,10 @@ fn write<const N: usize>(
 }
 
 // 0, or the refusal's number.
+#[tactic(auto, using(crate::specs::Numbers::never_zero))]
 fn number_of(done: Result<(), HostRefusal>) -> i64
-    ensures { result ≡ number_given done }
+    ensures value { result ≡ number_given done }
+    ensures refused { OnErr done (result ≢ pos 0) }
 {
     match done {
         Ok(()) => 0,

@@ -3,6 +3,7 @@ ghost use Rattle.std.specs.Prelude.{◌≡◌, pos};
 ghost use Rattle.hostcall.specs.declared.refusals.HostRefusal.TheVariants.{Malformed, Line, Reading, Table};
 ghost use Rattle.hostcall.specs.Numbers.{number_of};
 
+use book::refusals::Fault;
 use bounded::lists::Full;
 use codelist::lines::LineRefusal;
 use family::readings::ReadingRefusal;
@@ -18,7 +19,18 @@ pub enum HostRefusal {
 }
 
 impl From<Full> for HostRefusal {
+    ghost from_gives = { λ _ r. r ≡ Malformed };
+
     fn from(_full: Full) -> HostRefusal {
+        HostRefusal::Malformed
+    }
+}
+
+// No operation begins with such a byte.
+impl From<Fault> for HostRefusal {
+    ghost from_gives = { λ _ r. r ≡ Malformed };
+
+    fn from(_fault: Fault) -> HostRefusal {
         HostRefusal::Malformed
     }
 }

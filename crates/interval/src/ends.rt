@@ -90,8 +90,8 @@ fn up(n: i64, d: i64) -> i64
     ceil_div(n, d).unwrap_or(0)
 }
 
-// The four products of ends over 1000, the least rounded down and the greatest rounded up. By four ends, here and below: a rule takes them
-// out of its pairs in a pattern, and a struct of two would be made to be taken apart again.
+// The four products of ends over 1000, the least rounded down and the greatest rounded up. By ends, as all of
+// this file: a rule takes them out of its pairs in a pattern, and a struct of two would be made to be taken apart again.
 pub fn multiply(a: i32, b: i32, d: i32, e: i32) -> Enclosure
     ensures { result ≡ products a b d e }
 {

@@ -62,7 +62,8 @@ impl Slope {
     }
 }
 
-// The rules below name each part, also where all three follow one rule: a function that takes the rule would be no plainer.
+// The rules below name each part, also where all three follow one rule: a function over three parts would take the rule with its promise, and be
+// longer than the three lines.
 
 // Part by part.
 impl Neg for Slope {

@@ -14,11 +14,7 @@ use knots::tables::KnotTable;
 pub fn table_enclosure(table: &KnotTable, cell: Cell, row: &Row) -> Enclosure
     ensures { result ≡ table_curve table.now cell row.now }
 {
-    let extent = table.extent(cell);
-    let height = Enclosure::Bounds {
-        lo: extent.lo,
-        hi: extent.hi,
-    };
+    let height = Enclosure::from(table.extent(cell));
     height - reading_pair(reading_at(row, table.reading()))
 }
 

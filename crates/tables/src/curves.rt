@@ -1,10 +1,10 @@
 // The declared types.
 use bounded::lists::Bounded;
-use family::curves::Curves;
+use family::curves::{Curves, ROOM};
 use knots::tables::KnotTable;
 
-// At most eight tables.
-pub type TableList = Bounded<KnotTable, 8>;
+// As many tables as a family has room for.
+pub type TableList = Bounded<KnotTable, ROOM>;
 
 // The way of enclosing a knot table: its extent over the cell, less its reading.
 #[derive(Clone, Copy)]

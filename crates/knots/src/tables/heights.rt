@@ -15,7 +15,8 @@ use crate::tables::KnotTable;
 use exact::{ceil_div, floor_div};
 use family::cells::Cell;
 
-// n/d rounded down and up, of a height between the limits. Such a quotient always fits, so the 0 stands for nothing.
+// n/d rounded down and up, of a height between the limits. Such a quotient always fits, so the 0 stands for nothing. Not by the roundings of
+// enclosures, which want the same of a dividend: what wants something of its caller is not public.
 fn round_both(n: i64, d: i64) -> Extent
     requires size { unsigned_abs n ≤ 2 ^ 62 }
     requires positive { pos 0 <ℤ d }

@@ -1,13 +1,23 @@
 // Tables made from their knots, and the refusals' numbers.
 ghost use Rattle.std.specs.Prelude.{◌≡◌};
+ghost use Rattle.knots.specs.declared.knots.TableRefusal.TheVariants.{Knots};
 ghost use Rattle.knots.specs.Knots.{number_of, ranged, all_ranged, ascending};
 ghost use Rattle.knots.specs.Tables.{knots_of, Made};
 
 use crate::knots::{Knot, TableRefusal};
 use crate::tables::KnotTable;
-use bounded::lists::Bounded;
+use bounded::lists::{Bounded, Full};
 use family::cells::SPAN;
 use interval::enclosures::LIMIT;
+
+// More knots than a table has room for.
+impl From<Full> for TableRefusal {
+    ghost from_gives = { λ _ refusal. refusal ≡ Knots };
+
+    fn from(_full: Full) -> TableRefusal {
+        Self::Knots
+    }
+}
 
 impl From<TableRefusal> for u8 {
     ghost from_gives = { λ refusal n. n ≡ number_of refusal };
@@ -52,7 +62,7 @@ impl KnotTable {
         if !are_ranged(knots) {
             return Err(TableRefusal::Range);
         }
-        let held = Bounded::try_from(knots).map_err(|_| TableRefusal::Knots)?;
+        let held = Bounded::try_from(knots)?;
         if knots.len() < 2 || !are_ascending(knots) {
             return Err(TableRefusal::Knots);
         }

@@ -1,5 +1,4 @@
-use Rattle.std.proofs.Common.{◌≡◌, Some, None, Option, refl, ap, ◌∙◌, w32, SFits, rules}
-use Rattle.std.proofs.lemmas.Int.{to_z-of_z}
+use Rattle.std.proofs.Common.{◌≡◌, Some, None, Option, refl, ap, ◌∙◌}
 use Rattle.interval.specs.declared.enclosures.Enclosure.TheVariants.{Bounds}
 use Rattle.interval.specs.Rules.{sub}
 use Rattle.family.specs.declared.readings.Reading.{Reading}
@@ -16,10 +15,7 @@ is_sub e (Some r) = refl
 
 pub returns : goal.returns
 returns c =
-    let e = c.extent-extent.result in
-    let n = c.args.table.now.reading in
-    let f : SFits w32 e.lo = search rules in
-    let g : SFits w32 e.hi = search rules in
+    let e = c.extent.result in
+    let o = reading_at c.args.row.now c.args.table.now.reading in
     let r = c.reading_pair.ensures ∙ ap reading_pair (c.reading_at.ensures ∙ ap (reading_at c.args.row.now) c.reading.ensures) in
-    let less : c.sub.result ≡ sub (Bounds e.lo e.hi) c.reading_pair.result = simp to_z-of_z at c.sub.ensures.same in
-    less ∙ (λ i. sub (Bounds e.lo e.hi) (r i)) ∙ is_sub e (reading_at c.args.row.now n) ∙ (λ i. less_reading (c.extent-extent.ensures.rule i) (reading_at c.args.row.now n))
+    c.sub.ensures.same ∙ (λ i. sub (c.from-height.ensures i) (r i)) ∙ is_sub e o ∙ (λ i. less_reading (c.extent.ensures.rule i) o)
