@@ -9,6 +9,8 @@ use thiserror::Error;
 pub enum AccountError {
     #[error("a curve of no line")]
     NoLine,
+    #[error("no curve {0}")]
+    NoCurve(usize),
     #[error("refused line: {0:?}")]
     Line(#[from] LineRefusal),
     #[error("refused reading: {0:?}")]

@@ -19,7 +19,7 @@ use codelist::running::run;
 use family::cells::Cell;
 use family::families::Family;
 use family::readings::Reading;
-use family::rows::Row;
+use family::rows::{READINGS, Row};
 use interval::enclosures::Sign;
 use slope::entries::Slope;
 use slopes::asking::SlopeLists;
@@ -69,7 +69,7 @@ fn curves() -> Result<ListTable, AccountError> {
 
 // Reading 0 is [30, 33]; the others are absent.
 fn margin_readings() -> Result<Row, AccountError> {
-    let mut row = [None; 8];
+    let mut row = [None; READINGS];
     row[0] = Some(Reading::new(30, 33)?);
     Ok(row)
 }
@@ -101,8 +101,8 @@ fn verdict(sign: Option<Sign>, wide: bool) -> &'static str {
     }
 }
 
-// The curves that are shown, and the readings under which they are asked. Each call below is lent the handle that prints, and names the curve and
-// the cell that it asks of.
+// The curves that are shown, and the readings under which they are asked.
+// No part of it: the handle that prints is lent to each call, and a curve's number and a cell change from call to call.
 #[derive(Clone, Copy)]
 struct Shown {
     lists: ListTable,
@@ -125,6 +125,10 @@ impl Shown {
         }
     }
 
+    fn list(&self, k: usize) -> Result<&CodeList, AccountError> {
+        self.lists.get(k).ok_or(AccountError::NoCurve(k))
+    }
+
     // The entries of a list over the cell, and its last line's.
     fn entries(&self, list: &CodeList, cell: Cell) -> (Table<Slope>, Slope) {
         let mut table = Table::new(Slopes::blank());
@@ -134,9 +138,7 @@ impl Shown {
 
     // Each line of a curve with its entry over the cell.
     fn show_entries(&self, rt: &HostRuntime, k: usize, cell: Cell) -> Result<(), AccountError> {
-        let Some(list) = self.lists.get(k) else {
-            return Ok(());
-        };
+        let list = self.list(k)?;
         let (table, _) = self.entries(list, cell);
         for (n, line) in list.lines().iter().enumerate() {
             let entry = table.entry(Place::clamped(n));
@@ -147,9 +149,7 @@ impl Shown {
 
     // The entry of a curve's last line over a cell, and the answers of both families.
     fn show_answers(&self, rt: &HostRuntime, k: usize, cell: Cell) -> Result<(), AccountError> {
-        let Some(list) = self.lists.get(k) else {
-            return Ok(());
-        };
+        let list = self.list(k)?;
         let (_, entry) = self.entries(list, cell);
         let plain = self.plain().enclosure(k, cell, &self.row);
         let sloped = self.sloped().enclosure(k, cell, &self.row);

@@ -49,10 +49,11 @@ pub(crate) fn read_table(body: &[u8], tables: usize) -> Result<KnotTable, Fault>
     ensures { TableRead tables (body_reading body.now) (body_knots body.now) result }
 {
     let [reading, count, rest @ ..] = body else {
+        // no body is so short
         return Err(Fault::Knots);
     };
     let (eights, _) = rest.as_chunks::<8>();
-    // as many as one byte counts
+    // as many as one byte counts; a loop of one line, as `hostcall` has for more: a function over both would be longer
     let mut knots = Bounded::<Knot, 255>::new();
     for bytes in &eights[..*count as usize] {
         knots.push(knot_of(bytes)).map_err(|_| Fault::Knots)?;

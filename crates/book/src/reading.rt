@@ -58,6 +58,9 @@ impl<'a> Reader<'a> {
         }
     }
 
+    // The private ones here want the place to lie in the book: `read_next` has looked. At the book's end it does not, so it is no invariant of
+    // the reader.
+
     // The record at the reader's place, with the body up to that end.
     fn record_to(&self, end: usize, contents: Contents) -> ReadRecord<'a>
         requires begins { self.now.at + 9 ≤ end }
@@ -71,9 +74,6 @@ impl<'a> Reader<'a> {
             contents,
         }
     }
-
-    // The private ones here want the place to lie in the book: `read_next` has looked. At the book's end it does not, so it is no invariant of
-    // the reader.
 
     // The curve at the reader's place.
     fn curve(&self) -> Result<ReadRecord<'a>, Refusal>

@@ -3,7 +3,7 @@ use codelist::lists::CodeList;
 use knots::tables::KnotTable;
 
 // A curve or a table, as parts of the book: its tag of eight bytes, and its body. A curve's body is its lines; a table's the reading's number, the
-// knot count and the knots. The offset is that of its first byte.
+// knot count and the knots. The offset is that of its first byte. Each case has all three: callers match on a record.
 #[derive(Clone, Copy)]
 pub enum Record<'a> {
     Curve {

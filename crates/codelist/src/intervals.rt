@@ -9,6 +9,7 @@ use family::readings::Reading;
 use family::rows::reading_pair;
 use interval::enclosures::{Enclosure, LIMIT};
 
+// Operation by operation: see `Kind`.
 #[derive(Clone, Copy)]
 pub struct Intervals;
 

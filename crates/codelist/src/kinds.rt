@@ -6,7 +6,7 @@ ghost use Rattle.codelist.specs.Kinds.{Rules, Vouching, KindLaw, DivideLaw};
 use family::cells::Cell;
 use family::readings::Reading;
 
-// No operation has a body here for kinds whose entries have operators: an entry may have none, as a bool.
+// No operation has a body here for kinds whose entries have operators, and each kind writes them out: an entry may have none, as a bool.
 pub trait Kind {
     type Entry: Copy;
 

@@ -6,6 +6,7 @@ use codelist::kinds::Kind;
 use family::cells::Cell;
 use family::readings::Reading;
 
+// Operation by operation: see `Kind`.
 #[derive(Clone, Copy)]
 pub struct Defined;
 

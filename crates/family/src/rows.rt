@@ -5,7 +5,12 @@ ghost use Rattle.family.specs.Readings.{reading_at, reading_pair};
 use crate::readings::Reading;
 use interval::enclosures::Enclosure;
 
-pub type Row = [Option<Reading>; 8];
+// There are so many readings; their numbers go from 0 to the last.
+pub const READINGS: usize = 8;
+
+pub const LAST_READING: u8 = 7;
+
+pub type Row = [Option<Reading>; READINGS];
 
 // The reading of that number; none is beyond the eighth.
 pub fn reading_at(row: &Row, n: u8) -> Option<Reading>

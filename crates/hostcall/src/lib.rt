@@ -17,7 +17,7 @@ use codelist::plain::Lists;
 use family::cells::Cell;
 use family::families::Family;
 use family::readings::Reading;
-use family::rows::Row;
+use family::rows::{READINGS, Row};
 use interval::enclosures::Enclosure;
 use knots::knots::Knot;
 use knots::tables::KnotTable;
@@ -67,10 +67,10 @@ fn row_of(bytes: &[u8]) -> Result<Row, HostRefusal> {
     let (readings, []) = bytes.as_chunks::<9>() else {
         return Err(HostRefusal::Malformed);
     };
-    if readings.len() != 8 {
+    if readings.len() != READINGS {
         return Err(HostRefusal::Malformed);
     }
-    let mut row = [None; 8];
+    let mut row = [None; READINGS];
     for (place, reading) in row.iter_mut().zip(readings) {
         *place = reading_of(reading)?;
     }

@@ -35,6 +35,7 @@ impl From<Fault> for HostRefusal {
     }
 }
 
+// By hand, and not by thiserror's `from`: `from_gives` says which case.
 impl From<LineRefusal> for HostRefusal {
     ghost from_gives = { λ refusal r. r ≡ Line refusal };
 

@@ -51,7 +51,7 @@ pub fn farthest_size(lo: i32, hi: i32) -> i64
     (lo as i64).abs().max((hi as i64).abs())
 }
 
-// Of four numbers, and not of an array: the clauses name each.
+// Of four numbers, and not of an array: the clauses name each. Two functions of a line: one over both would take the choice and its promise.
 fn least_of(a: i64, b: i64, c: i64, d: i64) -> i64
     ensures { result ≡ least a b c d }
 {

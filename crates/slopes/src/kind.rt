@@ -11,6 +11,7 @@ use family::readings::Reading;
 use interval::enclosures::{Enclosure, LIMIT};
 use slope::entries::Slope;
 
+// Operation by operation: see `Kind`.
 #[derive(Clone, Copy)]
 pub struct Slopes;
 

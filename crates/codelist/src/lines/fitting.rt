@@ -5,6 +5,7 @@ ghost use Rattle.codelist.specs.Lines.{number_of, earlier, ranged, fit};
 
 use crate::lines::{Line, LineRefusal};
 use bounded::lists::Full;
+use family::rows::LAST_READING;
 use interval::enclosures::LIMIT;
 
 impl Line {
@@ -15,7 +16,7 @@ impl Line {
         let is_earlier = |i: u8| (i as usize) < k;
         match self {
             Line::X | Line::C(_) => true,
-            Line::R(n) => n <= 7,
+            Line::R(n) => n <= LAST_READING,
             Line::Neg(i) | Line::Abs(i) => is_earlier(i),
             Line::Add(i, j)
             | Line::Sub(i, j)

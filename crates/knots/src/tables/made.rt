@@ -8,6 +8,7 @@ use crate::knots::{Knot, TableRefusal};
 use crate::tables::KnotTable;
 use bounded::lists::{Bounded, Full};
 use family::cells::SPAN;
+use family::rows::LAST_READING;
 use interval::enclosures::LIMIT;
 
 // More knots than a table has room for.
@@ -56,7 +57,7 @@ impl KnotTable {
     pub fn new(reading: u8, knots: &[Knot]) -> Result<KnotTable, TableRefusal>
         ensures { Made reading knots.now result }
     {
-        if reading > 7 {
+        if reading > LAST_READING {
             return Err(TableRefusal::Reading);
         }
         if !are_ranged(knots) {
