@@ -2,10 +2,10 @@
 use bounded::lists::Full;
 use codelist::lines::LineRefusal;
 use family::readings::ReadingRefusal;
-use std::io;
+use std::{fmt, io};
 use thiserror::Error;
 
-#[derive(Debug, Drop, Error)]
+#[derive(Drop, Error)]
 pub enum AccountError {
     #[error("a curve of no line")]
     NoLine,
@@ -19,4 +19,14 @@ pub enum AccountError {
     Full(#[from] Full),
     #[error(transparent)]
     Print(#[from] io::Error),
+}
+
+// By hand: what `main` gives back is printed by Debug. Where a line is not written, that is the error of printing itself.
+impl fmt::Debug for AccountError {
+    fn fmt<W: fmt::Write>(&self, f: &mut fmt::Formatter<W>) -> fmt::Result {
+        match self {
+            AccountError::Print(error) => fmt::Debug::fmt(error, f),
+            refused => write!(f, "{refused}"),
+        }
+    }
 }

@@ -15,7 +15,7 @@ use codelist::lines::Line;
 use codelist::lists::{CodeList, ListTable};
 use codelist::places::Place;
 use codelist::plain::Lists;
-use codelist::running::run;
+use codelist::running::answer;
 use family::cells::Cell;
 use family::families::Family;
 use family::readings::Reading;
@@ -101,38 +101,24 @@ fn verdict(sign: Option<Sign>, wide: bool) -> &'static str {
     }
 }
 
-// The curves that are shown, and the readings under which they are asked.
+// The curves that are shown, as a family by plain rules and by slopes, and the readings under which they are asked.
 // No part of it: the handle that prints is lent to each call, and a curve's number and a cell change from call to call.
 #[derive(Clone, Copy)]
 struct Shown {
-    lists: ListTable,
+    plain: Lists,
+    sloped: SlopeLists,
     row: Row,
 }
 
 impl Shown {
-    // The lists as a family by plain rules, and by slopes.
-    fn plain(&self) -> Lists {
-        Lists {
-            items: self.lists,
-            way: Intervals,
-        }
-    }
-
-    fn sloped(&self) -> SlopeLists {
-        SlopeLists {
-            items: self.lists,
-            way: Slopes,
-        }
-    }
-
     fn list(&self, k: usize) -> Result<&CodeList, AccountError> {
-        self.lists.get(k).ok_or(AccountError::NoCurve(k))
+        self.plain.items.get(k).ok_or(AccountError::NoCurve(k))
     }
 
     // The entries of a list over the cell, and its last line's.
     fn entries(&self, list: &CodeList, cell: Cell) -> (Table<Slope>, Slope) {
         let mut table = Table::new(Slopes::blank());
-        let last = run::<Slopes>(&mut table, list, cell, &self.row);
+        let last = answer::<Slope, Slopes>(&mut table, list, cell, &self.row);
         (table, last)
     }
 
@@ -151,8 +137,8 @@ impl Shown {
     fn show_answers(&self, rt: &HostRuntime, k: usize, cell: Cell) -> Result<(), AccountError> {
         let list = self.list(k)?;
         let (_, entry) = self.entries(list, cell);
-        let plain = self.plain().enclosure(k, cell, &self.row);
-        let sloped = self.sloped().enclosure(k, cell, &self.row);
+        let plain = self.plain.enclosure(k, cell, &self.row);
+        let sloped = self.sloped.enclosure(k, cell, &self.row);
         let Cell { lo, hi } = cell;
         println!(rt; "  over {lo} to {hi}: {entry}: by lists {plain}, by slopes {sloped}")?;
         Ok(())
@@ -166,7 +152,7 @@ impl Shown {
 
     // One line for the cell, then its halves where it is neither clear nor narrow.
     fn show_cells(&self, rt: &HostRuntime, k: usize, cell: Cell) -> Result<(), AccountError> {
-        let margin = self.plain().enclosure(k, cell, &self.row);
+        let margin = self.plain.enclosure(k, cell, &self.row);
         let parts = halves(cell);
         let said = verdict(margin.sign(), parts.is_some());
         let Cell { lo, hi } = cell;
@@ -183,8 +169,13 @@ impl Shown {
 }
 
 fn main(rt: HostRuntime) -> Result<(), AccountError> {
+    let items = curves()?;
     let shown = Shown {
-        lists: curves()?,
+        plain: Lists {
+            items,
+            way: Intervals,
+        },
+        sloped: SlopeLists { items, way: Slopes },
         row: margin_readings()?,
     };
     let one_to_two = Cell { lo: 1000, hi: 2000 };

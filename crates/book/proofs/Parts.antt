@@ -47,7 +47,7 @@ module _ (book : List ℕ) (at w : ℕ) (count : w ≡ 10 + 8 * get_or book (at 
   body_size : at + 1 + w - (at + 9) ≡ 2 + 8 * get_or (drop at book) 10 0
   body_size = let e = get_or-drop at book 10 0 in omega arith
 
-  body_part : body ≡ table_body (drop at book)
+  pub body_part : body ≡ table_body (drop at book)
   body_part = (λ i. take (body_size i) (nine_further book at i))
 
   module _ (t : ℕ) where

@@ -43,7 +43,7 @@ module _ (book : List ℕ) (ls : List Line) (at : ℕ) (within : at < length boo
   at_command : (i : Inside) → inside (length ls) here ≡ i → lines_from ls 0 at here ≡ go_on (λ l w. lines_from (ls ++ (l ∷ [])) w (suc at) (drop (at + 1) book)) ls at i
   at_command i e = ap (lines_from ls 0 at) split ∙ ap (go_on (λ l w. lines_from (ls ++ (l ∷ [])) w (suc at) (drop (at + 1) book)) ls at) (ap (inside (length ls)) (sym split) ∙ e)
 
-  line_more : (l : Line) (w : ℕ) → inside (length ls) here ≡ a_line l w → w < length here → lines_from ls 0 at here ≡ lines_from (ls ++ (l ∷ [])) 0 (at + (1 + w)) (drop (at + (1 + w)) book)
+  pub line_more : (l : Line) (w : ℕ) → inside (length ls) here ≡ a_line l w → w < length here → lines_from ls 0 at here ≡ lines_from (ls ++ (l ∷ [])) 0 (at + (1 + w)) (drop (at + (1 + w)) book)
   line_more l w e h =
       let k : w ≤ length (drop (at + 1) book) = omega (arith, length-drop (at + 1) book, length-drop at book) in
       at_command (a_line l w) e ∙ pass_lines (ls ++ (l ∷ [])) w (suc at) (drop (at + 1) book) k

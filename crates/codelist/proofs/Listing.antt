@@ -10,7 +10,7 @@ use Rattle.codelist.specs.Lines.{earlier, ranged, fit, valid}
 use Rattle.codelist.specs.Lists.{lines_of}
 
 -- ---- one line more
-valid-push : (k m : ℕ) (ls : List Line) (l : Line) → valid k ls ≡ true → m ≡ k + length ls → earlier m l ≡ true → ranged l ≡ true → valid k (ls ++ (l ∷ [])) ≡ true
+pub valid-push : (k m : ℕ) (ls : List Line) (l : Line) → valid k ls ≡ true → m ≡ k + length ls → earlier m l ≡ true → ranged l ≡ true → valid k (ls ++ (l ∷ [])) ≡ true
 valid-push k m [] l h e p q = let f : m ≡ k = omega arith in let r = subst (λ (n : ℕ). earlier n l ≡ true) f p in rw (r, q)
 valid-push k m (x ∷ ls) l h e p q =
     let b = and_parts (earlier k x && ranged x) (valid (suc k) ls) h in
@@ -30,7 +30,7 @@ still_valid ls l k true h e r = let f = fitting k l r in valid-push 0 k ls l h (
 still_valid ls l k false h e r = h
 
 -- ---- the lines of a list, as the run reads them
-valid_at : (k m : ℕ) (ls : List Line) (n : ℕ) (d : Line) → valid k ls ≡ true → n < length ls → m ≡ k + n → earlier m (get_or ls n d) ≡ true
+pub valid_at : (k m : ℕ) (ls : List Line) (n : ℕ) (d : Line) → valid k ls ≡ true → n < length ls → m ≡ k + n → earlier m (get_or ls n d) ≡ true
 valid_at k m [] n d h l e = absurd (omega arith)
 valid_at k m (x ∷ ls) zero d h l e =
     let f : k ≡ m = omega arith in

@@ -1,10 +1,26 @@
-// A table of entries: one for each line that a list may have.
-ghost use Rattle.std.specs.Prelude.{◌≡◌, length, replicate, slice_index_or, slice_set};
+// Where the entries of a list stand as it runs: one for each line that a list may have.
+ghost use Rattle.std.specs.Prelude.{◌≡◌, List, length, replicate, slice_index_or, slice_set};
 ghost use Rattle.codelist.specs.Bound.{line_limit};
 
 use crate::places::{LINES, Place};
 use std::alloc::AllocError;
 
+// A table of entries of any type, however it keeps them.
+pub trait Entries<E> {
+    ghost table: { Self → List E };
+
+    ghost sized: { (s : Self) → length (table s) ≡ line_limit };
+
+    // The entry of a line, as an operand reads it.
+    fn lent(&self, at: Place) -> &E
+        ensures { (blank : E) → result.now ≡ slice_index_or (table self.now) at.n blank };
+
+    // The entry of a line into its place; no other is touched.
+    fn fill(&mut self, at: Place, e: E)
+        ensures { table self.new ≡ slice_set (table self.old) at.n e };
+}
+
+// The table of entries that are copied.
 pub struct Table<E> {
     entries: [E; LINES],
     ghost sized: { length entries ≡ line_limit },
@@ -40,18 +56,25 @@ impl<E: Copy> Table<E> {
         self.entries[at.index()]
     }
 
-    // What an operand reads: the entry of the line that it names, or blank where no line is.
-    pub(crate) fn read(&self, i: u8, blank: E) -> E
-        ensures { result ≡ slice_index_or self.now.entries i blank }
-    {
-        *self.entries.get(i as usize).unwrap_or(&blank)
-    }
-
     // The entry of a line into its place; no other is touched.
     pub fn put(&mut self, at: Place, e: E)
         ensures { self.new.entries ≡ slice_set self.old.entries at.n e }
     {
         let n = at.index();
         self.entries[n] = e;
+    }
+}
+
+impl<E: Copy> Entries<E> for Table<E> {
+    ghost table = { λ t. t.entries };
+
+    ghost sized = { λ t. t.sized };
+
+    fn lent(&self, at: Place) -> &E {
+        &self.entries[at.index()]
+    }
+
+    fn fill(&mut self, at: Place, e: E) {
+        self.put(at, e);
     }
 }

@@ -6,7 +6,7 @@ use crate::entries::Table;
 use crate::intervals::Intervals;
 use crate::kinds::Kind;
 use crate::lists::CodeList;
-use crate::running::run;
+use crate::running::answer;
 use family::cells::Cell;
 use family::curves::{Curves, Enclosing};
 use family::rows::Row;
@@ -24,6 +24,6 @@ impl Enclosing<CodeList> for Intervals {
 
     fn enclosure(&self, list: &CodeList, cell: Cell, row: &Row) -> Enclosure {
         let mut table = Table::new(Intervals::blank());
-        run::<Intervals>(&mut table, list, cell, row)
+        answer::<Enclosure, Intervals>(&mut table, list, cell, row)
     }
 }

@@ -11,7 +11,7 @@ use crate::kind::Defined;
 use codelist::entries::Table;
 use codelist::kinds::Kind;
 use codelist::lists::CodeList;
-use codelist::running::run;
+use codelist::running::answer;
 use family::cells::Cell;
 use family::rows::Row;
 
@@ -22,5 +22,5 @@ pub fn surely_has_value(list: &CodeList, cell: Cell, row: &Row) -> bool
     ensures law { (t : Temperatures) (p : Fraction) → exists cell ≡ true → Allowed row.now t → InCell cell p → HasValue result (value_of t p (lines_of list.now)) }
 {
     let mut table = Table::new(Defined::blank());
-    run::<Defined>(&mut table, list, cell, row)
+    answer::<bool, Defined>(&mut table, list, cell, row)
 }

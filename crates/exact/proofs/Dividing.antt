@@ -1,8 +1,10 @@
--- How the 64-bit functions reach floor and ceiling from Euclid's quotient, which leaves a rest of 0 or more.
-use Rattle.std.proofs.Common.{◌≡◌, ℕ, zero, suc, ◌-◌, ◌*◌, ◌/◌, ◌%◌, ◌^◌, ◌<◌, ◌≤◌, Bool, true, cond, ◌⊎◌, ℤ, pos, negsuc, ◌+ℤ◌, ◌-ℤ◌, neg_ℤ, ◌<ℤ◌, Some, None, Option, sym, refl, ap, ◌∙◌, subst, inl, inr, mul_comm, mul-le-mul_left, ⊎_elim, mod-lt, suc-mul, div-add-mod', div-le_self, div-mul-le_self, div-one, arith, w64, SFits}
+-- How the 64-bit functions reach floor and ceiling from `/`, which rounds toward zero (`quot_z`), and how Euclid's quotient, which leaves a rest of 0 or more, gives them.
+use Rattle.std.proofs.Common.{◌≡◌, ℕ, zero, suc, ◌-◌, ◌*◌, ◌/◌, ◌%◌, ◌^◌, ◌<◌, ◌≤◌, Bool, true, false, cond, ◌⊎◌, ℤ, pos, negsuc, ◌+ℤ◌, ◌-ℤ◌, neg_ℤ, ◌<ℤ◌, Some, None, Option, sym, refl, ap, ◌∙◌, subst, inl, inr, mul_comm, mul-le-mul_left, ⊎_elim, mod-lt, suc-mul, div-add-mod', div-le_self, div-mul-le_self, div-one, arith, w64, SFits}
 use Rattle.std.proofs.Math.Nat.{zero-div, zero-mod, mod-eq_of_lt, suc-mod, mod_self, div-eq_of_lt-le}
+use lib.Signed.{quot_z}
 use borrow.Author.Differences.{ints}
 use Rattle.std.specs.Int.{CanDivide, int_div_euclid, int_rem_euclid}
+use Rattle.std.specs.Option.{IfSome}
 use Rattle.exact.specs.Rounding.{floor, ceiling, fits, if_fits, floor_div, ceil_div, IsFloor, IsCeiling}
 use Rattle.exact.proofs.Rounding.{floor_is, ceiling_is, floor_size, ceiling_size}
 
@@ -93,6 +95,27 @@ ceiling_uneven n (pos (suc b)) h r =
     omega (arith, ints)
 ceiling_uneven n (negsuc b) h r = absurd h.lt
 
+-- ---- from a quotient rounded toward zero
+-- the signs differ: n one nearer to zero, and one less
+pub floor_turned_down : (n d : ℤ) → pos 0 <ℤ n → d <ℤ pos 0 → quot_z (n -ℤ pos 1) d -ℤ pos 1 ≡ floor n d
+floor_turned_down (pos zero) d h k = absurd h.lt
+floor_turned_down (pos (suc m)) (pos b) h k = absurd (omega (arith, ints))
+floor_turned_down (pos (suc m)) (negsuc b) h k =
+    let e : pos (suc m) -ℤ pos 1 ≡ pos m = omega (arith, ints) in
+    ap (λ (z : ℤ). quot_z z (negsuc b) -ℤ pos 1) e ∙ omega (arith, ints)
+floor_turned_down (negsuc a) d h k = absurd h.lt
+
+pub floor_turned_up : (n d : ℤ) → n <ℤ pos 0 → pos 0 <ℤ d → quot_z (n +ℤ pos 1) d -ℤ pos 1 ≡ floor n d
+floor_turned_up (pos a) d h k = absurd (omega (arith, ints))
+floor_turned_up (negsuc a) (negsuc b) h k = absurd k.lt
+floor_turned_up (negsuc a) (pos b) h k = from a
+  where
+    from : (a : ℕ) → quot_z (negsuc a +ℤ pos 1) (pos b) -ℤ pos 1 ≡ negsuc (a / b)
+    from zero = let z = zero-div b in omega (arith, ints)
+    from (suc m) =
+        let e : negsuc (suc m) +ℤ pos 1 ≡ negsuc m = omega (arith, ints) in
+        ap (λ (z : ℤ). quot_z z (pos b) -ℤ pos 1) e ∙ omega (arith, ints)
+
 -- ---- the answer
 in_range : (q : ℤ) → SFits w64 q → fits q ≡ true
 in_range q f = grind (arith, ints)
@@ -102,7 +125,24 @@ answered (pos zero) q z f = absurd (z refl)
 answered (pos (suc d)) q z f = ap (λ (t : Bool). cond t (Some q) None) (sym (in_range q f))
 answered (negsuc d) q z f = ap (λ (t : Bool). cond t (Some q) None) (sym (in_range q f))
 
--- what the code knows once Euclid's quotient is there, and what its answer z is
+-- what the answer, a quotient or none, means
+module _ (P : ℤ → Type 0) (q : ℤ) (p : P q) where
+  held_where : (t : Bool) → IfSome (cond t (Some q) None) P
+  held_where true = p
+  held_where false = tt
+
+  held : (d : ℤ) → IfSome (if_fits d q) P
+  held (pos zero) = tt
+  held (pos (suc d)) = held_where (fits q)
+  held (negsuc d) = held_where (fits q)
+
+pub floor_means : (n d : ℤ) (r : Option ℤ) → r ≡ floor_div n d → IfSome r (IsFloor n d)
+floor_means n d r e = subst (λ (o : Option ℤ). IfSome o (IsFloor n d)) (sym e) (held (IsFloor n d) (floor n d) (floor_is n d) d)
+
+pub ceiling_means : (n d : ℤ) (r : Option ℤ) → r ≡ ceil_div n d → IfSome r (IsCeiling n d)
+ceiling_means n d r e = subst (λ (o : Option ℤ). IfSome o (IsCeiling n d)) (sym e) (held (IsCeiling n d) (ceiling n d) (ceiling_is n d) d)
+
+-- what is known once a checked quotient is there, and what an answer z is
 can_divide : (n d : ℤ) → CanDivide w64 n d → (Overflows n d → ⊥) × (d ≡ pos 0 → ⊥)
 can_divide n d (z, f) = (λ o. let g = rw (o.0, o.1) at f in omega (arith, ints), λ e. omega (arith, ints))
 

@@ -10,12 +10,13 @@ pub fn floor_div(n: i64, d: i64) -> Option<i64>
     ensures value { result ≡ floor_div n d }
     ensures meaning { IfSome result (IsFloor n d) }
 {
-    // Euclid's quotient leaves a rest of 0 or more: it is the floor where d is above 0, and the ceiling where d is below.
-    let q = n.checked_div_euclid(d)?;
-    if d < 0 && n.rem_euclid(d) != 0 {
-        Some(q - 1)
+    // `/` rounds toward zero: down, unless the signs differ. There n, one nearer to zero, gives one more than the floor.
+    if n < 0 && d > 0 {
+        Some((n + 1) / d - 1)
+    } else if n > 0 && d < 0 {
+        Some((n - 1) / d - 1)
     } else {
-        Some(q)
+        n.checked_div(d)
     }
 }
 
@@ -25,11 +26,13 @@ pub fn ceil_div(n: i64, d: i64) -> Option<i64>
     ensures value { result ≡ ceil_div n d }
     ensures meaning { IfSome result (IsCeiling n d) }
 {
-    let q = n.checked_div_euclid(d)?;
-    if d > 0 && n.rem_euclid(d) != 0 {
-        Some(q + 1)
+    // `/` rounds toward zero: up, unless the signs agree. There n, one nearer to zero, gives one less than the ceiling.
+    if n > 0 && d > 0 {
+        Some((n - 1) / d + 1)
+    } else if n < 0 && d < 0 {
+        ((n + 1) / d).checked_add(1)
     } else {
-        Some(q)
+        n.checked_div(d)
     }
 }
 

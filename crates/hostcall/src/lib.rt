@@ -9,7 +9,6 @@ mod refusals;
 use crate::refusals::HostRefusal;
 use book::knot_bytes::knot_of;
 use book::ops::{Command, Op};
-use bounded::lists::Bounded;
 use codelist::intervals::Intervals;
 use codelist::lines::Line;
 use codelist::lists::{CodeList, ListTable};
@@ -80,16 +79,18 @@ fn row_of(bytes: &[u8]) -> Result<Row, HostRefusal> {
 // Room for more knots than a table may have.
 const ROOM: usize = 300;
 
-// The loop is a book's, with more room: a function over both would have to promise what was pushed so far, and be longer than the loop.
 fn table_of(reading: u8, bytes: &[u8]) -> Result<KnotTable, HostRefusal> {
     let (knots, []) = bytes.as_chunks::<8>() else {
         return Err(HostRefusal::Malformed);
     };
-    let mut all: Bounded<Knot, ROOM> = Bounded::new();
-    for knot in knots {
-        all.push(knot_of(knot))?;
+    let mut all = [Knot { x: 0, y: 0 }; ROOM];
+    let Some(places) = all.get_mut(..knots.len()) else {
+        return Err(HostRefusal::Malformed);
+    };
+    for (place, knot) in places.iter_mut().zip(knots) {
+        *place = knot_of(knot);
     }
-    Ok(KnotTable::new(reading, all.as_slice())?)
+    Ok(KnotTable::new(reading, places)?)
 }
 
 // An answer's nine bytes: whether it has bounds, then its ends, big-endian.
@@ -102,31 +103,51 @@ fn bytes_of(answer: Enclosure) -> [u8; 9] {
 }
 
 // By plain rules, then by slopes.
-fn answers_of_list(lines: &[u8], readings: &[u8], cell: Cell) -> Result<[u8; 18], HostRefusal> {
-    let ([first, rest @ ..], []) = lines.as_chunks::<8>() else {
-        return Err(HostRefusal::Malformed);
-    };
-    let row = row_of(readings)?;
+fn answers_of(list: CodeList, cell: Cell, row: &Row) -> Result<[u8; 18], HostRefusal> {
     let mut items = ListTable::new();
-    items.push(list_of(first, rest)?)?;
-    let mut bytes = [0; 18];
-    let (plain, sloped) = bytes.split_at_mut(9);
+    items.push(list)?;
     let lists = Lists {
         items,
         way: Intervals,
     };
-    plain.copy_from_slice(&bytes_of(lists.enclosure(0, cell, &row)));
+    let plain = bytes_of(lists.enclosure(0, cell, row));
     let slope_lists = SlopeLists { items, way: Slopes };
-    sloped.copy_from_slice(&bytes_of(slope_lists.enclosure(0, cell, &row)));
+    let sloped = bytes_of(slope_lists.enclosure(0, cell, row));
+    let mut bytes = [0; 18];
+    let (first, second) = bytes.split_at_mut(9);
+    first.copy_from_slice(&plain);
+    second.copy_from_slice(&sloped);
     Ok(bytes)
 }
 
+// Nothing is read where there is no room for the answers.
+fn answers_of_list(
+    lines: &[u8],
+    readings: &[u8],
+    cell: Cell,
+    room: usize,
+) -> Result<[u8; 18], HostRefusal> {
+    if room < 18 {
+        return Err(HostRefusal::NoRoom);
+    }
+    let ([first, rest @ ..], []) = lines.as_chunks::<8>() else {
+        return Err(HostRefusal::NoList);
+    };
+    let row = row_of(readings)?;
+    answers_of(list_of(first, rest)?, cell, &row)
+}
+
+// Nothing is read where there is no room for the answer.
 fn answer_of_table(
     reading: u8,
     knots: &[u8],
     readings: &[u8],
     cell: Cell,
+    room: usize,
 ) -> Result<[u8; 9], HostRefusal> {
+    if room < 9 {
+        return Err(HostRefusal::NoRoom);
+    }
     let row = row_of(readings)?;
     let mut items = TableList::new();
     items.push(table_of(reading, knots)?)?;
@@ -146,7 +167,7 @@ fn write<const N: usize>(
     ensures rest { drop N out.new ≡ drop N out.old }
 {
     let Some(place) = out.first_chunk_mut::<N>() else {
-        return Err(HostRefusal::Malformed);
+        return Err(HostRefusal::NoRoom);
     };
     *place = answer?;
     Ok(())
@@ -177,10 +198,8 @@ pub extern "C" fn zefrwyll_host_table(
     ensures refused { (result ≢ pos 0) → out.new ≡ out.old }
     ensures rest { drop 9 out.new ≡ drop 9 out.old }
 {
-    number_of(write(
-        answer_of_table(reading, knots, readings, Cell { lo, hi }),
-        out,
-    ))
+    let answer = answer_of_table(reading, knots, readings, Cell { lo, hi }, out.len());
+    number_of(write(answer, out))
 }
 
 // 0 where the answers are written into the first 18 bytes of out; otherwise a refusal's number, and out is as it was.
@@ -195,5 +214,6 @@ pub extern "C" fn zefrwyll_host_enclosures(
     ensures refused { (result ≢ pos 0) → out.new ≡ out.old }
     ensures rest { drop 18 out.new ≡ drop 18 out.old }
 {
-    number_of(write(answers_of_list(lines, readings, Cell { lo, hi }), out))
+    let answers = answers_of_list(lines, readings, Cell { lo, hi }, out.len());
+    number_of(write(answers, out))
 }

@@ -11,7 +11,11 @@ use knots::knots::TableRefusal;
 
 #[derive(Clone, Copy, PartialEq, Eq, Debug)]
 pub enum HostRefusal {
-    // bytes that are no list, table or row, or no room for the answer
+    // no room for the answer
+    NoRoom,
+    // no line, or bytes left over behind the lines
+    NoList,
+    // bytes that are no line, row or table
     Malformed,
     Line(LineRefusal),
     Reading(ReadingRefusal),
@@ -65,6 +69,8 @@ impl From<HostRefusal> for i64 {
 
     fn from(refusal: HostRefusal) -> i64 {
         match refusal {
+            HostRefusal::NoRoom => 1,
+            HostRefusal::NoList => 1,
             HostRefusal::Malformed => 1,
             HostRefusal::Line(refusal) => u8::from(refusal) as i64,
             HostRefusal::Reading(refusal) => u8::from(refusal) as i64,

@@ -168,7 +168,7 @@ reading_keeps δ o t h = record { point = holds o h; inside = holds o h; middle 
     holds (Some r) h = units_between r.lo r.hi t h
 
 -- ---- what a rule's function answers
-follows : (rule : Slope) (Law : Slope → Type 0) (r : Slope) → Law rule → r ≡ rule → Follows rule Law r
+pub follows : (rule : Slope) (Law : Slope → Type 0) (r : Slope) → Law rule → r ≡ rule → Follows rule Law r
 follows rule Law r l e = record { same = e; law = subst Law (sym e) l }
 
 pub neg_follows : (i r : Slope) → r ≡ neg_slope i → Follows (neg_slope i) (Law1 (each negated) i) r

@@ -11,11 +11,12 @@ use crate::kind::Slopes;
 use codelist::entries::Table;
 use codelist::kinds::Kind;
 use codelist::lists::CodeList;
-use codelist::running::run;
+use codelist::running::answer;
 use family::cells::Cell;
 use family::curves::{Curves, Enclosing};
 use family::rows::Row;
 use interval::enclosures::Enclosure;
+use slope::entries::Slope;
 
 // One pass over the list keeps v, u and s of every line; the answer is that of the last. Over a cell that exists it has bounds wherever
 // the plain enclosure has.
@@ -24,7 +25,7 @@ pub fn enclosure_by_slopes(list: &CodeList, cell: Cell, row: &Row) -> Enclosure
     ensures bounded { exists cell ≡ true → HasBounds (enclosure_of cell row.now (lines_of list.now)) → HasBounds result }
 {
     let mut table = Table::new(Slopes::blank());
-    let last = run::<Slopes>(&mut table, list, cell, row);
+    let last = answer::<Slope, Slopes>(&mut table, list, cell, row);
     last.answer(cell)
 }
 

@@ -1,8 +1,15 @@
 // Making and filling a bounded list.
-ghost use Rattle.std.specs.Prelude.{◌≡◌, [], ◌∷◌, ◌++◌, length, if◌then◌else◌, nat_lt, is_ok};
+ghost use Rattle.std.specs.Prelude.{◌≡◌, [], ◌∷◌, ◌++◌, length, replicate, if◌then◌else◌, Some, nat_lt, is_ok};
 ghost use Rattle.bounded.specs.Lists.{items_of, Copied};
 
 use crate::lists::{Bounded, Full};
+
+// That item in each place. By itself, since push would clear room for the array at each item, and not at the first alone.
+fn fill<T: Copy, const N: usize>(places: &mut Option<[T; N]>, item: T)
+    ensures { places.new ≡ Some (replicate N item) }
+{
+    *places = Some([item; N]);
+}
 
 impl<T: Copy, const N: usize> Bounded<T, N> {
     // No item yet.
@@ -26,7 +33,7 @@ impl<T: Copy, const N: usize> Bounded<T, N> {
         }
         match &mut self.places {
             Some(places) => places[n] = item,
-            None => self.places = Some([item; N]),
+            None => fill(&mut self.places, item),
         }
         self.len = n + 1;
         Ok(())
@@ -39,10 +46,18 @@ impl<T: Copy, const N: usize> TryFrom<&[T]> for Bounded<T, N> {
     ghost try_from_gives = { λ items result. Copied items.now result };
 
     fn try_from(items: &[T]) -> Result<Bounded<T, N>, Full> {
-        let mut list = Bounded::new();
-        for item in items {
-            list.push(*item)?;
+        let Some(first) = items.first() else {
+            return Ok(Bounded::new());
+        };
+        let len = items.len();
+        if len > N {
+            return Err(Full);
         }
-        Ok(list)
+        let mut places = [*first; N];
+        places[..len].copy_from_slice(items);
+        Ok(Bounded {
+            places: Some(places),
+            len,
+        })
     }
 }
