@@ -1,23 +1,26 @@
 // Where the entries of a list stand as it runs: one for each line that a list may have.
-ghost use Rattle.std.specs.Prelude.{◌≡◌, List, length, replicate, slice_index_or, slice_set};
+ghost use Rattle.std.specs.Prelude.{◌≡◌, true, List, length, replicate, slice_index_or, slice_set};
 ghost use Rattle.codelist.specs.Bound.{line_limit};
+ghost use Rattle.codelist.specs.Lines.{earlier};
+ghost use Rattle.codelist.specs.Evaluate.{entry};
+ghost use Rattle.codelist.specs.Kinds.{over};
 
+use crate::kinds::Kind;
+use crate::lines::Line;
 use crate::places::{LINES, Place};
+use family::cells::Cell;
+use family::rows::{Row, reading_at};
 use std::alloc::AllocError;
 
-// A table of entries of any type, however it keeps them.
-pub trait Entries<E> {
-    ghost table: { Self → List E };
+// A table of a kind's entries, of any make: it keeps them as it likes, and fills the place of a line by the kind's rules.
+pub trait Entries<K: Kind> {
+    ghost table: { Self → List K.Entry };
 
     ghost sized: { (s : Self) → length (table s) ≡ line_limit };
 
-    // The entry of a line, as an operand reads it.
-    fn lent(&self, at: Place) -> &E
-        ensures { (blank : E) → result.now ≡ slice_index_or (table self.now) at.n blank };
-
-    // The entry of a line into its place; no other is touched.
-    fn fill(&mut self, at: Place, e: E)
-        ensures { table self.new ≡ slice_set (table self.old) at.n e };
+    // The entry of a line into its place, from those of the lines before it: a list's lines read no others. No other place is touched.
+    fn fill(&mut self, at: Place, line: Line, cell: Cell, row: &Row)
+        ensures { earlier at.n line ≡ true → table self.new ≡ slice_set (table self.old) at.n (entry (over K.rules cell row.now) K.divided line (table self.old)) };
 }
 
 // The table of entries that are copied.
@@ -56,6 +59,13 @@ impl<E: Copy> Table<E> {
         self.entries[at.index()]
     }
 
+    // What an operand reads: the entry of the line that it names, or blank where no line is.
+    fn read(&self, i: u8, blank: E) -> E
+        ensures { result ≡ slice_index_or self.now.entries i blank }
+    {
+        *self.entries.get(i as usize).unwrap_or(&blank)
+    }
+
     // The entry of a line into its place; no other is touched.
     pub fn put(&mut self, at: Place, e: E)
         ensures { self.new.entries ≡ slice_set self.old.entries at.n e }
@@ -65,16 +75,37 @@ impl<E: Copy> Table<E> {
     }
 }
 
-impl<E: Copy> Entries<E> for Table<E> {
+impl<E: Copy, K: Kind<Entry = E>> Entries<K> for Table<E> {
     ghost table = { λ t. t.entries };
 
     ghost sized = { λ t. t.sized };
 
-    fn lent(&self, at: Place) -> &E {
-        &self.entries[at.index()]
-    }
-
-    fn fill(&mut self, at: Place, e: E) {
+    fn fill(&mut self, at: Place, line: Line, cell: Cell, row: &Row) {
+        let e = entry_of::<E, K>(self, line, cell, row);
         self.put(at, e);
+    }
+}
+
+// The entry of a line, from those that stand in the table.
+fn entry_of<E: Copy, K: Kind<Entry = E>>(table: &Table<E>, line: Line, cell: Cell, row: &Row) -> E
+    ensures { result ≡ entry (over K.rules cell row.now) K.divided line table.now.entries }
+{
+    let blank = K::blank();
+    match line {
+        Line::X => K::x(cell),
+        Line::C(v) => K::constant(v),
+        Line::R(n) => K::reading(reading_at(row, n)),
+        Line::Neg(i) => K::neg(&table.read(i, blank)),
+        Line::Abs(i) => K::abs(&table.read(i, blank)),
+        Line::Add(i, j) => K::add(&table.read(i, blank), &table.read(j, blank)),
+        Line::Sub(i, j) => K::sub(&table.read(i, blank), &table.read(j, blank)),
+        Line::Mul(i, j) => K::mul(&table.read(i, blank), &table.read(j, blank)),
+        Line::Div(i, j) => K::div(&table.read(i, blank), &table.read(j, blank)),
+        Line::Max(i, j) => K::max(&table.read(i, blank), &table.read(j, blank)),
+        Line::Chi(s, q, r) => K::chi(
+            &table.read(s, blank),
+            &table.read(q, blank),
+            &table.read(r, blank),
+        ),
     }
 }

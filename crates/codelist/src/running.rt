@@ -1,53 +1,20 @@
 // Running a list over any kind of value.
-ghost use Rattle.std.specs.Prelude.{◌≡◌, true, length, take, drop, slice_index_or};
-ghost use Rattle.codelist.specs.Lines.{earlier};
+ghost use Rattle.std.specs.Prelude.{◌≡◌, length, take, drop, slice_index_or};
 ghost use Rattle.codelist.specs.Lists.{lines_of};
-ghost use Rattle.codelist.specs.Evaluate.{entry, entries, last_entry};
+ghost use Rattle.codelist.specs.Evaluate.{entries, last_entry};
 ghost use Rattle.codelist.specs.Kinds.{over};
 ghost use Rattle.codelist.specs.Runs.{Vouched};
 
 use crate::entries::{Entries, Table};
 use crate::kinds::Kind;
-use crate::lines::Line;
 use crate::lists::CodeList;
 use crate::places::Place;
 use family::cells::Cell;
-use family::rows::{Row, reading_at};
-
-// The entry of a line at its place, from those of the lines before it: a list's lines read no others.
-fn entry_of<K: Kind, T: Entries<K::Entry>>(
-    table: &T,
-    at: Place,
-    line: Line,
-    cell: Cell,
-    row: &Row,
-) -> K::Entry
-    ensures { earlier at.n line ≡ true → result ≡ entry (over K.rules cell row.now) K.divided line (T.table table.now) }
-{
-    let read = |i: u8| table.lent(Place::clamped(i as usize));
-    match line {
-        Line::X => K::x(cell),
-        Line::C(v) => K::constant(v),
-        Line::R(n) => K::reading(reading_at(row, n)),
-        Line::Neg(i) => K::neg(read(i)),
-        Line::Abs(i) => K::abs(read(i)),
-        Line::Add(i, j) => K::add(read(i), read(j)),
-        Line::Sub(i, j) => K::sub(read(i), read(j)),
-        Line::Mul(i, j) => K::mul(read(i), read(j)),
-        Line::Div(i, j) => K::div(read(i), read(j)),
-        Line::Max(i, j) => K::max(read(i), read(j)),
-        Line::Chi(s, q, r) => K::chi(read(s), read(q), read(r)),
-    }
-}
+use family::rows::Row;
 
 // Runs a list: the entry of each line into its place; the last line's place is the answer. What stands in later places stays.
 // The caller makes the table: a function that makes one for any kind owes that its size fits in memory, and cannot show it.
-pub fn run<K: Kind, T: Entries<K::Entry>>(
-    table: &mut T,
-    list: &CodeList,
-    cell: Cell,
-    row: &Row,
-) -> Place
+pub fn run<K: Kind, T: Entries<K>>(table: &mut T, list: &CodeList, cell: Cell, row: &Row) -> Place
     ensures entries { take (length (lines_of list.now)) (T.table table.new) ≡ entries (over K.rules cell row.now) K.divided (lines_of list.now) }
     ensures rest { drop (length (lines_of list.now)) (T.table table.new) ≡ drop (length (lines_of list.now)) (T.table table.old) }
     ensures vouched { Vouched K.vouches K.rules.blank (T.table table.new) (lines_of list.now) cell row.now }
@@ -55,9 +22,7 @@ pub fn run<K: Kind, T: Entries<K::Entry>>(
 {
     let lines = list.lines();
     for (n, line) in lines.iter().enumerate() {
-        let at = Place::clamped(n);
-        let e = entry_of::<K, T>(table, at, *line, cell, row);
-        table.fill(at, e);
+        table.fill(Place::clamped(n), *line, cell, row);
     }
     Place::clamped(lines.len().saturating_sub(1))
 }

@@ -130,8 +130,11 @@ fn answers_of_list(
     if room < 18 {
         return Err(HostRefusal::NoRoom);
     }
-    let ([first, rest @ ..], []) = lines.as_chunks::<8>() else {
-        return Err(HostRefusal::NoList);
+    let (lines, []) = lines.as_chunks::<8>() else {
+        return Err(HostRefusal::Malformed);
+    };
+    let [first, rest @ ..] = lines else {
+        return Err(HostRefusal::NoLine);
     };
     let row = row_of(readings)?;
     answers_of(list_of(first, rest)?, cell, &row)

@@ -13,8 +13,8 @@ use knots::knots::TableRefusal;
 pub enum HostRefusal {
     // no room for the answer
     NoRoom,
-    // no line, or bytes left over behind the lines
-    NoList,
+    // a list of no line
+    NoLine,
     // bytes that are no line, row or table
     Malformed,
     Line(LineRefusal),
@@ -70,7 +70,7 @@ impl From<HostRefusal> for i64 {
     fn from(refusal: HostRefusal) -> i64 {
         match refusal {
             HostRefusal::NoRoom => 1,
-            HostRefusal::NoList => 1,
+            HostRefusal::NoLine => 1,
             HostRefusal::Malformed => 1,
             HostRefusal::Line(refusal) => u8::from(refusal) as i64,
             HostRefusal::Reading(refusal) => u8::from(refusal) as i64,

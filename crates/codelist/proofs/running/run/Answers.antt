@@ -23,8 +23,8 @@ loop-n-preserved g c =
     let e = entry o m.divided (get_or ls n X) es in
     let b = in_table list ls is n lt in
     let room : n < length es = omega (arith, g.T.Entries.sized c.loop-n.table) in
-    let at : n ≡ c.clamped-at.result.n = omega arith in
-    let reads : earlier c.clamped-at.result.n (get_or ls n X) ≡ true = subst (λ (m : ℕ). earlier m (get_or ls n X) ≡ true) at (reads_earlier list ls is n lt X) in
+    let at : n ≡ c.clamped.result.n = omega arith in
+    let reads : earlier c.clamped.result.n (get_or ls n X) ≡ true = subst (λ (m : ℕ). earlier m (get_or ls n X) ≡ true) at (reads_earlier list ls is n lt X) in
     let filled : g.T.Entries.table c.fill.new.self ≡ set es n e = grind arith in
     record {
       front = rw filled (next o m.divided ls es n X lt room (reads_earlier list ls is n lt X) c.loop-n.invariant.front);
