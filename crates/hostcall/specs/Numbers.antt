@@ -2,7 +2,7 @@
 use Rattle.std.specs.Prelude.{ℕ, ◌<◌, ℤ, pos, Ok, Err, Result}
 use Rattle.std.proofs.Common.{arith}
 use Rattle.hostcall.specs.declared.refusals.HostRefusal.{HostRefusal}
-use Rattle.hostcall.specs.declared.refusals.HostRefusal.TheVariants.{NoRoom, NoLine, Malformed, Line, Reading, Table}
+use Rattle.hostcall.specs.declared.refusals.HostRefusal.TheVariants.{NoRoom, Ragged, NoLine, Malformed, Line, Reading, Table}
 use Rattle.family.specs.declared.readings.ReadingRefusal.TheVariants.{Ends}
 use Rattle.family.specs.Readings.{number_of as reading_number}
 use Rattle.codelist.specs.declared.lines.LineRefusal.TheVariants.{Operand, Constant, Full}
@@ -12,6 +12,7 @@ use Rattle.knots.specs.Knots.{number_of as table_number}
 
 abbrev pub number_of : HostRefusal → ℕ
 number_of NoRoom = 1
+number_of Ragged = 1
 number_of NoLine = 1
 number_of Malformed = 1
 number_of (Line refusal) = line_number refusal
@@ -21,6 +22,7 @@ number_of (Table refusal) = table_number refusal
 -- no refusal has the number of a call that is done
 pub never_zero : (refusal : HostRefusal) → 0 < number_of refusal
 never_zero NoRoom = omega arith
+never_zero Ragged = omega arith
 never_zero NoLine = omega arith
 never_zero Malformed = omega arith
 never_zero (Line Operand) = omega arith

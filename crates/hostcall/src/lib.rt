@@ -131,7 +131,7 @@ fn answers_of_list(
         return Err(HostRefusal::NoRoom);
     }
     let (lines, []) = lines.as_chunks::<8>() else {
-        return Err(HostRefusal::Malformed);
+        return Err(HostRefusal::Ragged);
     };
     let [first, rest @ ..] = lines else {
         return Err(HostRefusal::NoLine);

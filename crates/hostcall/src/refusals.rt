@@ -13,6 +13,8 @@ use knots::knots::TableRefusal;
 pub enum HostRefusal {
     // no room for the answer
     NoRoom,
+    // bytes left over behind the lines
+    Ragged,
     // a list of no line
     NoLine,
     // bytes that are no line, row or table
@@ -70,6 +72,7 @@ impl From<HostRefusal> for i64 {
     fn from(refusal: HostRefusal) -> i64 {
         match refusal {
             HostRefusal::NoRoom => 1,
+            HostRefusal::Ragged => 1,
             HostRefusal::NoLine => 1,
             HostRefusal::Malformed => 1,
             HostRefusal::Line(refusal) => u8::from(refusal) as i64,
