@@ -5,7 +5,7 @@ ghost use Rattle.codelist.specs.Lines.{earlier};
 ghost use Rattle.codelist.specs.Evaluate.{entry};
 ghost use Rattle.codelist.specs.Kinds.{over};
 
-use crate::kinds::Kind;
+use crate::lent::LentKind;
 use crate::lines::Line;
 use crate::places::{LINES, Place};
 use family::cells::Cell;
@@ -13,7 +13,7 @@ use family::rows::{Row, reading_at};
 use std::alloc::AllocError;
 
 // A table of a kind's entries, of any make: it keeps them as it likes, and fills the place of a line by the kind's rules.
-pub trait Entries<K: Kind> {
+pub trait Entries<K: LentKind> {
     ghost table: { Self → List K.Entry };
 
     ghost sized: { (s : Self) → length (table s) ≡ line_limit };
@@ -75,7 +75,7 @@ impl<E: Copy> Table<E> {
     }
 }
 
-impl<E: Copy, K: Kind<Entry = E>> Entries<K> for Table<E> {
+impl<E: Copy, K: LentKind<Entry = E>> Entries<K> for Table<E> {
     ghost table = { λ t. t.entries };
 
     ghost sized = { λ t. t.sized };
@@ -87,7 +87,12 @@ impl<E: Copy, K: Kind<Entry = E>> Entries<K> for Table<E> {
 }
 
 // The entry of a line, from those that stand in the table.
-fn entry_of<E: Copy, K: Kind<Entry = E>>(table: &Table<E>, line: Line, cell: Cell, row: &Row) -> E
+fn entry_of<E: Copy, K: LentKind<Entry = E>>(
+    table: &Table<E>,
+    line: Line,
+    cell: Cell,
+    row: &Row,
+) -> E
     ensures { result ≡ entry (over K.rules cell row.now) K.divided line table.now.entries }
 {
     let blank = K::blank();

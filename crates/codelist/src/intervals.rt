@@ -47,35 +47,35 @@ impl Kind for Intervals {
         reading_pair(r)
     }
 
-    fn neg(e: &Enclosure) -> Enclosure {
-        -*e
+    fn neg(e: Enclosure) -> Enclosure {
+        -e
     }
 
-    fn abs(e: &Enclosure) -> Enclosure {
+    fn abs(e: Enclosure) -> Enclosure {
         e.abs()
     }
 
-    fn add(e: &Enclosure, f: &Enclosure) -> Enclosure {
-        *e + *f
+    fn add(e: Enclosure, f: Enclosure) -> Enclosure {
+        e + f
     }
 
-    fn sub(e: &Enclosure, f: &Enclosure) -> Enclosure {
-        *e - *f
+    fn sub(e: Enclosure, f: Enclosure) -> Enclosure {
+        e - f
     }
 
-    fn mul(e: &Enclosure, f: &Enclosure) -> Enclosure {
-        *e * *f
+    fn mul(e: Enclosure, f: Enclosure) -> Enclosure {
+        e * f
     }
 
-    fn max(e: &Enclosure, f: &Enclosure) -> Enclosure {
-        e.max(*f)
+    fn max(e: Enclosure, f: Enclosure) -> Enclosure {
+        e.max(f)
     }
 
-    fn chi(s: &Enclosure, q: &Enclosure, r: &Enclosure) -> Enclosure {
-        s.chi(*q, *r)
+    fn chi(s: Enclosure, q: Enclosure, r: Enclosure) -> Enclosure {
+        s.chi(q, r)
     }
 
-    fn div(e: &Enclosure, f: &Enclosure) -> Enclosure {
-        *e / *f
+    fn div(e: Enclosure, f: Enclosure) -> Enclosure {
+        e / f
     }
 }

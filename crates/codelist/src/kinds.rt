@@ -8,8 +8,7 @@ use family::readings::Reading;
 
 // No operation has a body here for kinds whose entries have operators, and each kind writes them out: an entry may have none, as a bool.
 pub trait Kind {
-    // Of any type: an operation is lent its operands.
-    type Entry;
+    type Entry: Copy;
 
     // The largest size of an end of an entry, in counts.
     const LARGEST: i64;
@@ -40,27 +39,27 @@ pub trait Kind {
     fn reading(r: Option<Reading>) -> Self::Entry
         ensures { result ≡ rules.reading r };
 
-    fn neg(e: &Self::Entry) -> Self::Entry
-        ensures { result ≡ rules.neg e.now };
+    fn neg(e: Self::Entry) -> Self::Entry
+        ensures { result ≡ rules.neg e };
 
-    fn abs(e: &Self::Entry) -> Self::Entry
-        ensures { result ≡ rules.abs e.now };
+    fn abs(e: Self::Entry) -> Self::Entry
+        ensures { result ≡ rules.abs e };
 
-    fn add(e: &Self::Entry, f: &Self::Entry) -> Self::Entry
-        ensures { result ≡ rules.add e.now f.now };
+    fn add(e: Self::Entry, f: Self::Entry) -> Self::Entry
+        ensures { result ≡ rules.add e f };
 
-    fn sub(e: &Self::Entry, f: &Self::Entry) -> Self::Entry
-        ensures { result ≡ rules.sub e.now f.now };
+    fn sub(e: Self::Entry, f: Self::Entry) -> Self::Entry
+        ensures { result ≡ rules.sub e f };
 
-    fn mul(e: &Self::Entry, f: &Self::Entry) -> Self::Entry
-        ensures { result ≡ rules.mul e.now f.now };
+    fn mul(e: Self::Entry, f: Self::Entry) -> Self::Entry
+        ensures { result ≡ rules.mul e f };
 
-    fn max(e: &Self::Entry, f: &Self::Entry) -> Self::Entry
-        ensures { result ≡ rules.max e.now f.now };
+    fn max(e: Self::Entry, f: Self::Entry) -> Self::Entry
+        ensures { result ≡ rules.max e f };
 
-    fn chi(s: &Self::Entry, q: &Self::Entry, r: &Self::Entry) -> Self::Entry
-        ensures { result ≡ rules.chi s.now q.now r.now };
+    fn chi(s: Self::Entry, q: Self::Entry, r: Self::Entry) -> Self::Entry
+        ensures { result ≡ rules.chi s q r };
 
-    fn div(e: &Self::Entry, f: &Self::Entry) -> Self::Entry
-        ensures { result ≡ divided e.now f.now };
+    fn div(e: Self::Entry, f: Self::Entry) -> Self::Entry
+        ensures { result ≡ divided e f };
 }

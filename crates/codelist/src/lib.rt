@@ -4,6 +4,7 @@
 pub mod entries;
 pub mod intervals;
 pub mod kinds;
+pub mod lent;
 pub mod lines;
 pub mod lists;
 pub mod places;
@@ -13,6 +14,7 @@ pub mod running;
 #[cfg(test)]
 mod tests {
     use crate::intervals::Intervals;
+    use crate::kinds::Kind;
     use crate::lines::{Line, LineRefusal};
     use crate::lists::{CodeList, ListTable};
     use crate::plain::Lists;
@@ -69,5 +71,22 @@ mod tests {
             Err(LineRefusal::Constant)
         );
         Ok(())
+    }
+
+    fn pair(lo: i32, hi: i32) -> Enclosure {
+        Enclosure::Bounds { lo, hi }
+    }
+
+    #[test]
+    fn operations_of_intervals(rt: HostRuntime) {
+        let (e, f) = (pair(-1000, 2000), pair(3000, 4000));
+        assert_eq!(rt; Intervals::neg(e), pair(-2000, 1000));
+        assert_eq!(rt; Intervals::abs(e), pair(0, 2000));
+        assert_eq!(rt; Intervals::add(e, f), pair(2000, 6000));
+        assert_eq!(rt; Intervals::sub(e, f), pair(-5000, -1000));
+        assert_eq!(rt; Intervals::mul(e, f), pair(-4000, 8000));
+        assert_eq!(rt; Intervals::div(e, f), pair(-334, 667));
+        assert_eq!(rt; Intervals::max(e, f), pair(3000, 4000));
+        assert_eq!(rt; Intervals::chi(f, e, f), f);
     }
 }

@@ -6,7 +6,7 @@ ghost use Rattle.codelist.specs.Kinds.{over};
 ghost use Rattle.codelist.specs.Runs.{Vouched};
 
 use crate::entries::{Entries, Table};
-use crate::kinds::Kind;
+use crate::lent::LentKind;
 use crate::lists::CodeList;
 use crate::places::Place;
 use family::cells::Cell;
@@ -14,7 +14,12 @@ use family::rows::Row;
 
 // Runs a list: the entry of each line into its place; the last line's place is the answer. What stands in later places stays.
 // The caller makes the table: a function that makes one for any kind owes that its size fits in memory, and cannot show it.
-pub fn run<K: Kind, T: Entries<K>>(table: &mut T, list: &CodeList, cell: Cell, row: &Row) -> Place
+pub fn run<K: LentKind, T: Entries<K>>(
+    table: &mut T,
+    list: &CodeList,
+    cell: Cell,
+    row: &Row,
+) -> Place
     ensures entries { take (length (lines_of list.now)) (T.table table.new) ≡ entries (over K.rules cell row.now) K.divided (lines_of list.now) }
     ensures rest { drop (length (lines_of list.now)) (T.table table.new) ≡ drop (length (lines_of list.now)) (T.table table.old) }
     ensures vouched { Vouched K.vouches K.rules.blank (T.table table.new) (lines_of list.now) cell row.now }
@@ -28,7 +33,7 @@ pub fn run<K: Kind, T: Entries<K>>(table: &mut T, list: &CodeList, cell: Cell, r
 }
 
 // Runs a list over entries that are copied; the last line's is the answer.
-pub fn answer<E: Copy, K: Kind<Entry = E>>(
+pub fn answer<E: Copy, K: LentKind<Entry = E>>(
     table: &mut Table<E>,
     list: &CodeList,
     cell: Cell,

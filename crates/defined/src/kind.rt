@@ -43,35 +43,35 @@ impl Kind for Defined {
         true
     }
 
-    fn neg(e: &bool) -> bool {
-        *e
+    fn neg(e: bool) -> bool {
+        e
     }
 
-    fn abs(e: &bool) -> bool {
-        *e
+    fn abs(e: bool) -> bool {
+        e
     }
 
-    fn add(e: &bool, f: &bool) -> bool {
-        *e && *f
+    fn add(e: bool, f: bool) -> bool {
+        e && f
     }
 
-    fn sub(e: &bool, f: &bool) -> bool {
-        *e && *f
+    fn sub(e: bool, f: bool) -> bool {
+        e && f
     }
 
-    fn mul(e: &bool, f: &bool) -> bool {
-        *e && *f
+    fn mul(e: bool, f: bool) -> bool {
+        e && f
     }
 
-    fn max(e: &bool, f: &bool) -> bool {
-        *e && *f
+    fn max(e: bool, f: bool) -> bool {
+        e && f
     }
 
-    fn chi(s: &bool, q: &bool, r: &bool) -> bool {
-        *s && *q && *r
+    fn chi(s: bool, q: bool, r: bool) -> bool {
+        s && q && r
     }
 
-    fn div(_e: &bool, _f: &bool) -> bool {
+    fn div(_e: bool, _f: bool) -> bool {
         false
     }
 }

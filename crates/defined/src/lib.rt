@@ -4,3 +4,21 @@
 
 pub mod asking;
 pub mod kind;
+
+#[cfg(test)]
+mod tests {
+    use crate::kind::Defined;
+    use codelist::kinds::Kind;
+
+    #[test]
+    fn operations_of_answers(rt: HostRuntime) {
+        assert_eq!(rt; Defined::neg(true), true);
+        assert_eq!(rt; Defined::abs(false), false);
+        assert_eq!(rt; Defined::add(true, true), true);
+        assert_eq!(rt; Defined::sub(true, false), false);
+        assert_eq!(rt; Defined::mul(false, true), false);
+        assert_eq!(rt; Defined::max(true, false), false);
+        assert_eq!(rt; Defined::chi(true, true, false), false);
+        assert_eq!(rt; Defined::div(true, true), false);
+    }
+}

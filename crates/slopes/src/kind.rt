@@ -53,35 +53,35 @@ impl Kind for Slopes {
         Slope::reading(r)
     }
 
-    fn neg(e: &Slope) -> Slope {
-        -*e
+    fn neg(e: Slope) -> Slope {
+        -e
     }
 
-    fn abs(e: &Slope) -> Slope {
+    fn abs(e: Slope) -> Slope {
         e.abs()
     }
 
-    fn add(e: &Slope, f: &Slope) -> Slope {
-        *e + *f
+    fn add(e: Slope, f: Slope) -> Slope {
+        e + f
     }
 
-    fn sub(e: &Slope, f: &Slope) -> Slope {
-        *e - *f
+    fn sub(e: Slope, f: Slope) -> Slope {
+        e - f
     }
 
-    fn mul(e: &Slope, f: &Slope) -> Slope {
-        *e * *f
+    fn mul(e: Slope, f: Slope) -> Slope {
+        e * f
     }
 
-    fn max(e: &Slope, f: &Slope) -> Slope {
-        e.max(*f)
+    fn max(e: Slope, f: Slope) -> Slope {
+        e.max(f)
     }
 
-    fn chi(s: &Slope, q: &Slope, r: &Slope) -> Slope {
-        s.chi(*q, *r)
+    fn chi(s: Slope, q: Slope, r: Slope) -> Slope {
+        s.chi(q, r)
     }
 
-    fn div(e: &Slope, f: &Slope) -> Slope {
-        *e / *f
+    fn div(e: Slope, f: Slope) -> Slope {
+        e / f
     }
 }

@@ -12,7 +12,7 @@ use Rattle.codelist.proofs.running.run.Goals as goal
 
 pub loop-n-preserved : goal.loop-n-preserved
 loop-n-preserved g c =
-    let m = g.K.Kind in
+    let m = g.K.LentKind in
     let list = c.args.list.now in
     let is = c.lines-lines.ensures in
     let ls = c.lines-lines.result.now in
@@ -33,7 +33,7 @@ loop-n-preserved g c =
 
 pub returns-clause-vouched : goal.returns-clause-vouched
 returns-clause-vouched g c =
-    let m = g.K.Kind in
+    let m = g.K.LentKind in
     let ls = lines_of c.args.list.now in
     let es = g.T.Entries.table c.loop-n.table in
     let e : take (length ls) es ≡ entries (over m.rules c.args.cell c.args.row.now) m.divided ls = grind (arith, common_steps) in
